@@ -1,0 +1,7 @@
+-- What the contracts of this crate say, in the order of the paper's section "The word at each clock".
+pub mod Pins
+pub mod Reading
+pub mod Writing
+pub mod Answers
+pub mod Ignored
+pub mod RoundTrip

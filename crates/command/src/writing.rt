@@ -1,0 +1,114 @@
+// An operation is written to its pair of words. Pins not named are low.
+use crate::operation::Operation;
+use crate::operation::Pair;
+use crate::operation::Request;
+use crate::pins::A0;
+use crate::pins::A1;
+use crate::pins::A3;
+use crate::pins::A4;
+use crate::pins::A11;
+use crate::pins::A12;
+use crate::pins::A13;
+use crate::pins::BA0;
+use crate::pins::BA2;
+use crate::pins::CS;
+use crate::pins::FN;
+use crate::pins::PD;
+use crate::pins::bit;
+use crate::pins::kept;
+use config::Config;
+use config::Refusal;
+use config::Timing;
+use config::TimingAnswer;
+ghost use mathlib.Core.Path.{_≡_};
+ghost use Prim.Native.Nat.{_≤_};
+ghost use Rattle.command.specs.Writing.{requestFits, operationFits, accessPair, pairOf, writePair};
+ghost use Rattle.command.specs.Answers.{writeOutcome};
+
+// The pair, or the refusal.
+pub enum WriteAnswer {
+    Written(Pair),
+    Refused(Refusal),
+}
+
+// Every field of the request is in its range.
+pub fn request_fits(timing: Timing, request: Request) -> bool
+    ensures { λ r. ⌜ r ≡ requestFits timing request ⌝ }
+{
+    let wide = timing.organisation == 16;
+    let long = timing.bl == 4;
+    let lower = request.lower;
+    let upper = request.upper;
+    let lower_fits = (lower == 1) | (lower == 2) | long & (lower == 4);
+    let upper_fits = (upper == 1) | (upper == 2) | long & (upper == 4);
+    let lanes = request.write & lower_fits & (wide & upper_fits | !wide & (upper == 0))
+        | !request.write & ((lower == 0) & (upper == 0));
+    (request.bank <= 7)
+        & (request.row <= 16383)
+        & ((request.column <= 255) | !wide & (request.column <= 511))
+        & lanes
+}
+
+// Every field of the operation is in its range.
+pub fn operation_fits(timing: Timing, operation: Operation) -> bool
+    ensures { λ r. ⌜ r ≡ operationFits timing operation ⌝ }
+{
+    match operation {
+        Operation::Access(request) => request_fits(timing, request),
+        Operation::Regular(_) => true,
+        Operation::Extended(v) => v <= 63,
+        Operation::Refresh => true,
+    }
+}
+
+fn access(timing: Timing, request: Request) -> Pair
+    ensures { λ r. ⌜ r ≡ accessPair timing request ⌝ }
+{
+    let long = timing.bl == 4;
+    let wide = timing.organisation == 16;
+    let lower = bit(!(request.lower == 2)) * BA2 + bit(long & !(request.lower == 4)) * A13;
+    let upper = bit(!(request.upper == 2)) * A12 + bit(long & !(request.upper == 4)) * A11;
+    let lower_lane = kept(request.write, lower);
+    let upper_lane = kept(request.write & wide, upper);
+    Pair {
+        first: PD + bit(!request.write) * FN + request.bank % 8 * BA0 + request.row % 16384 * A0,
+        second: PD + CS + request.column % 512 * A0 + lower_lane + upper_lane,
+    }
+}
+
+// The words of an operation whose fields are in range.
+pub fn encode(timing: Timing, operation: Operation) -> Pair
+    ensures { λ r. ⌜ r ≡ pairOf timing operation ⌝ }
+{
+    match operation {
+        Operation::Access(request) => access(timing, request),
+        Operation::Regular(a3) => Pair {
+            first: PD + FN,
+            second: PD + timing.cl % 8 * A4 + bit(a3) * A3 + timing.bl / 2 % 8 * A0,
+        },
+        Operation::Extended(v) => Pair {
+            first: PD + FN,
+            second: PD + BA0 + v % 64 * A1,
+        },
+        Operation::Refresh => Pair {
+            first: PD,
+            second: PD,
+        },
+    }
+}
+
+// Writes an operation: the configuration's refusals, then 26 for a field out of range.
+pub fn write_pair(config: Config, operation: Operation) -> WriteAnswer
+    ensures { λ r. ⌜ writeOutcome r ≡ writePair config operation ⌝ }
+{
+    match config.timing() {
+        TimingAnswer::Refused(why) => WriteAnswer::Refused(why),
+        TimingAnswer::Accepted(timing) => {
+            if operation_fits(timing, operation) {
+                WriteAnswer::Written(encode(timing, operation))
+            } else {
+                WriteAnswer::Refused(Refusal::Field)
+            }
+        }
+    }
+}

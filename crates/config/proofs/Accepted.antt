@@ -1,0 +1,30 @@
+-- A call that gave a value had an accepted configuration: all its tests held, and its timing is the derived one. Assumes nothing.
+use mathlib.Core.Path.{_≡_, sym, ap, subst}
+use mathlib.Core.Bool.{true}
+use Rattle.config.specs.Outcome.{Outcome, value, given}
+use Rattle.config.specs.Sheet.{partFits, periodFits, countsFit, derived, timingOf}
+use Rattle.config.specs.declared.Config.{Config}
+use Rattle.config.specs.declared.Timing.{Timing}
+use Rattle.config.proofs.Outcomes.{require-value, given-value}
+
+pub record Accepted (c : Config) : Type 0 where
+  pub part : partFits c ≡ true
+  pub period : periodFits c ≡ true
+  pub counts : countsFit c ≡ true
+
+pub accepted : (c : Config) (t : Timing) → timingOf c ≡ value t → Accepted c × (derived c ≡ t)
+accepted c t e =
+    let h₁ = require-value (partFits c) _ _ e in
+    let h₂ = require-value (periodFits c) _ _ (h₁ .1) in
+    let h₃ = require-value (countsFit c) _ _ (h₂ .1) in
+    (record { part = h₁ .0; period = h₂ .0; counts = h₃ .0 }, cc (h₃ .1))
+
+pub timing-is : (c : Config) → Accepted c → timingOf c ≡ value (derived c)
+timing-is c a = rw (a .part, a .period, a .counts)
+
+-- what such a call came to, at the derived timing
+pub behind : {B : Type 0} (c : Config) (f : Timing → Outcome B) {b : B} → given (timingOf c) f ≡ value b → Accepted c × (f (derived c) ≡ value b)
+behind c f e =
+    let g = given-value (timingOf c) f e in
+    let a = accepted c (g .0) (g .1) in
+    (a .0, rw (a .1) (g .2))

@@ -1,0 +1,67 @@
+-- Each refusal by the first test that fails, and otherwise the published figures. Assumes nothing.
+use borrow.Author.Needs.{needs}
+use borrow.Author.Tests.{not-true, not-false}
+use mathlib.Core.Path.{_≡_, sym, _∙_}
+use mathlib.Core.Bool.{true}
+use native.Mathlib.Omega.{arith}
+use Rattle.config.specs.Sheet.{partFits, periodFits, countsFit}
+use Rattle.config.proofs.Bounds.{cl-bounds, count-bounds, period-bounds}
+use Rattle.config.proofs.Config.timing.Statement.{statement}
+use Rattle.config.proofs.Config.timing.Tie as tie
+
+-- what the tests that were passed say
+part : (c : tie.Else1) → partFits (c .before .before .args .self) ≡ true
+part c = sym (c .before .part-fits .ensures) ∙ not-false _ (c .if1 .left)
+
+period : (c : tie.Else2) → periodFits (c .before .before .before .before .args .self) ≡ true
+period c = sym (c .before .period-fits .ensures) ∙ not-false _ (c .if2 .left)
+
+counts : (c : tie.Else3) → countsFit (c .before .before .before .before .before .before .args .self) ≡ true
+counts c = sym (c .before .counts-fit .ensures) ∙ not-false _ (c .if3 .left)
+
+part-fits-requires : tie.Need-part-fits-requires
+part-fits-requires c κs = search needs
+
+returns : tie.Need-returns
+returns c = rw (← c .before .part-fits .ensures, not-true (c .before .part-fits .result) (c .if1 .taken))
+
+period-fits-requires : tie.Need-period-fits-requires
+period-fits-requires c κs = cl-bounds (c .before .before .args .self) (part c)
+
+returns-2 : tie.Need-returns-2
+returns-2 c = rw (part (c .before .before), ← c .before .period-fits .ensures, not-true (c .before .period-fits .result) (c .if2 .taken))
+
+counts-fit-requires : tie.Need-counts-fit-requires
+counts-fit-requires c κs = search needs
+
+returns-3 : tie.Need-returns-3
+returns-3 c =
+    rw
+    (part (c .before .before .before .before), period (c .before .before), ← c .before .counts-fit .ensures, not-true (c .before .counts-fit .result) (c .if3 .taken))
+
+derived-requires : tie.Need-derived-requires
+derived-requires c κs =
+    let self = c .before .before .before .before .before .before .args .self in
+    let p = part (c .before .before .before .before) in
+    let cl = cl-bounds self p in
+    let ps = period-bounds self p (period (c .before .before)) in
+    let n = count-bounds self (counts c) in
+    omega arith
+
+returns-4 : tie.Need-returns-4
+returns-4 c =
+    rw
+    (c .derived .ensures, part (c .before .before .before .before .before), period (c .before .before .before), counts (c .before))
+
+pub timing-spec : {M : Type 1} → statement M
+timing-spec =
+    tie.close
+    (tie.spec
+    part-fits-requires
+    returns
+    period-fits-requires
+    returns-2
+    counts-fit-requires
+    returns-3
+    derived-requires
+    returns-4)

@@ -1,0 +1,20 @@
+-- What lies behind an outcome that is a value: every test held, and every call before it gave a value. Assumes nothing.
+use Prim.Native.Nat.{ℕ}
+use mathlib.Core.Path.{_≡_, refl, sym, subst}
+use mathlib.Core.Bool.{Bool, true, false}
+use Rattle.config.specs.Outcome.{Outcome, value, refused, require, given}
+
+abbrev IsValue : {A : Type 0} → Outcome A → Type 0
+IsValue (value a) = Unit {0}
+IsValue (refused n) = ⊥
+
+pub refused-value : {A : Type 0} {n : ℕ} {a : A} → refused n ≡ value a → ⊥
+refused-value e = subst IsValue (sym e) tt
+
+pub require-value : {A : Type 0} (b : Bool) (n : ℕ) (rest : Outcome A) {a : A} → require b n rest ≡ value a → (b ≡ true) × (rest ≡ value a)
+require-value true n rest e = (refl, e)
+require-value false n rest e = absurd (refused-value e)
+
+pub given-value : {A B : Type 0} (x : Outcome A) (f : A → Outcome B) {b : B} → given x f ≡ value b → (a : A) × (x ≡ value a) × (f a ≡ value b)
+given-value (value a) f e = (a, refl, e)
+given-value (refused n) f e = absurd (refused-value e)

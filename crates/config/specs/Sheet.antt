@@ -1,0 +1,91 @@
+-- The sheet: the range of each field, and the figures that an accepted one yields.
+use Prim.Native.Nat.{ℕ, _+_, _-_, _/_, max}
+use mathlib.Core.Bool.{Bool, cond, _&&_, _||_}
+use mathlib.Core.List.{List, [], _∷_}
+use lib.ListN.{getD}
+use lib.Dec.{eqb, leb}
+use Rattle.config.specs.Outcome.{Outcome, value, require}
+use Rattle.config.specs.declared.Config.{Config}
+use Rattle.config.specs.declared.Timing.{Timing}
+
+-- n is one of a and b
+abbrev pub oneOf : ℕ → ℕ → ℕ → Bool
+oneOf a b n = eqb n a || eqb n b
+
+-- n is from low to high, both included
+abbrev pub within : ℕ → ℕ → ℕ → Bool
+within low high n = leb low n && leb n high
+
+-- "Grade 37 or 50; CL 3, 4 or 5; BL 2 or 4; organisation 16 or 8"
+abbrev pub partFits : Config → Bool
+partFits c = oneOf 37 50 (c .grade) && within 3 5 (c .cl) && oneOf 2 4 (c .bl) && oneOf 16 8 (c .organisation)
+
+-- "Least period by grade and CL is a table": a row for each grade, a column for each CL
+abbrev pub leastPeriods : List (List ℕ)
+leastPeriods = (5500 ∷ 4500 ∷ 3750 ∷ []) ∷ (6000 ∷ 5500 ∷ 5000 ∷ []) ∷ []
+
+abbrev pub gradeRow : ℕ → ℕ
+gradeRow grade = cond (eqb grade 37) 0 1
+
+abbrev pub leastPeriod : ℕ → ℕ → ℕ
+leastPeriod grade cl = getD (getD leastPeriods (gradeRow grade) []) (cl - 3) 0
+
+-- "The greatest is 8500."
+abbrev pub periodFits : Config → Bool
+periodFits c = within (leastPeriod (c .grade) (c .cl)) 8500 (c .period .0)
+
+-- "RBD 2 to 7, RWD 1 to 7, WRD 1 to 7, RSC 2 to 15, REFC 15 to 63"
+abbrev pub countsFit : Config → Bool
+countsFit c =
+    within 2 7 (c .rbd .0)
+    && within 1 7 (c .rwd .0)
+    && within 1 7 (c .wrd .0)
+    && within 2 15 (c .rsc .0)
+    && within 15 63 (c .refc .0)
+
+-- "RC is 5, 5, 6 for CL 3, 4, 5"
+abbrev pub rcOf : ℕ → ℕ
+rcOf cl = cond (eqb cl 5) 6 5
+
+-- "S is the largest of RC, RBD, RWD + 1, WRD + 1."
+abbrev pub spacingOf : ℕ → ℕ → ℕ → ℕ → ℕ
+spacingOf rc rbd rwd wrd = max (max rc rbd) (max (rwd + 1) (wrd + 1))
+
+-- WL = CL − 1; D, here refi; W, here window; S, here spacing
+abbrev pub derived : Config → Timing
+derived c =
+    record {
+      cl = c .cl;
+      bl = c .bl;
+      organisation = c .organisation;
+      rbd = c .rbd .0;
+      rwd = c .rwd .0;
+      wrd = c .wrd .0;
+      rsc = c .rsc .0;
+      refc = c .refc .0;
+      rc = rcOf (c .cl);
+      wl = c .cl - 1;
+      refi = 3900000 / c .period .0;
+      window = 3200000 / c .period .0 + 1;
+      spacing = spacingOf (rcOf (c .cl)) (c .rbd .0) (c .rwd .0) (c .wrd .0);
+    }
+
+-- "Sheet: 20 grade, CL, BL or organisation; 21 period; 22 a count out of its range."
+abbrev pub timingOf : Config → Outcome Timing
+timingOf c = require (partFits c) 20 (require (periodFits c) 21 (require (countsFit c) 22 (value (derived c))))
+
+-- "Sheet E, the institute's own: grade 37, CL 4, BL 4, by 16, 5000 ps, RBD 2, RWD 3, WRD 1, RSC 7, REFC 18."
+abbrev pub institute : Config
+institute =
+    record {
+      grade = 37;
+      cl = 4;
+      bl = 4;
+      organisation = 16;
+      period = record { 0 = 5000 };
+      rbd = record { 0 = 2 };
+      rwd = record { 0 = 3 };
+      wrd = record { 0 = 1 };
+      rsc = record { 0 = 7 };
+      refc = record { 0 = 18 };
+    }

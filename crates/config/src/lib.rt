@@ -1,0 +1,170 @@
+// The configuration of a memory part (the paper's sheet), and the timing that an accepted one yields.
+mod refusal;
+
+pub use refusal::Refusal;
+ghost use mathlib.Core.Path.{_≡_};
+ghost use mathlib.Core.Bool.{cond};
+ghost use Prim.Native.Nat.{_≤_, _<_, max};
+ghost use Rattle.config.specs.Sheet.{leastPeriod, partFits, periodFits, countsFit, derived, timingOf, institute};
+ghost use Rattle.config.specs.Numbers.{timingOutcome};
+
+// A time in whole picoseconds. A period and a count of clocks are never taken for one another.
+pub struct Picoseconds(pub u32);
+
+// A count of clocks.
+pub struct Clocks(pub u32);
+
+// A configuration as it is given (the paper's sheet): any numbers at all.
+pub struct Config {
+    pub grade: u32,
+    pub cl: u32,
+    pub bl: u32,
+    pub organisation: u32,
+    pub period: Picoseconds,
+    pub rbd: Clocks,
+    pub rwd: Clocks,
+    pub wrd: Clocks,
+    pub rsc: Clocks,
+    pub refc: Clocks,
+}
+
+// What an accepted configuration yields. Every spacing is in clocks.
+pub struct Timing {
+    pub cl: u32,
+    pub bl: u32,
+    pub organisation: u32,
+    pub rbd: u32,
+    pub rwd: u32,
+    pub wrd: u32,
+    pub rsc: u32,
+    pub refc: u32,
+    pub rc: u32,
+    pub wl: u32,
+    // The longest time from one REF word to the next (the paper's D).
+    pub refi: u32,
+    // The least span of eight refresh intervals (the paper's W).
+    pub window: u32,
+    // The longest spacing between two reads or writes (the paper's S).
+    pub spacing: u32,
+}
+
+// The timing, or the refusal of the configuration.
+pub enum TimingAnswer {
+    Accepted(Timing),
+    Refused(Refusal),
+}
+
+// The least period in picoseconds: a row for grade 37 and one for grade 50, a column for each of CL 3, 4 and 5.
+const LEAST_PERIOD: [[u32; 3]; 2] = [[5500, 4500, 3750], [6000, 5500, 5000]];
+
+const GREATEST_PERIOD: u32 = 8500;
+
+// x where the test holds, and otherwise y.
+fn choose(test: bool, x: u32, y: u32) -> u32
+    ensures { λ r. ⌜ r ≡ cond test x y ⌝ }
+{
+    if test { x } else { y }
+}
+
+fn larger(x: u32, y: u32) -> u32
+    ensures { λ r. ⌜ r ≡ max x y ⌝ }
+{
+    if x < y { y } else { x }
+}
+
+fn least_period(grade: u32, cl: u32) -> Picoseconds
+    requires { ⌜ (3 ≤ cl) × (cl ≤ 5) ⌝ }
+    ensures { λ r. ⌜ r .0 ≡ leastPeriod grade cl ⌝ }
+{
+    let row = choose(grade == 37, 0, 1) as usize;
+    let column = (cl - 3) as usize;
+    Picoseconds(LEAST_PERIOD[row][column])
+}
+
+impl Config {
+    // The institute's own configuration (the paper's sheet E).
+    pub fn institute() -> Config
+        ensures { λ r. ⌜ r ≡ institute ⌝ }
+    {
+        Config {
+            grade: 37,
+            cl: 4,
+            bl: 4,
+            organisation: 16,
+            period: Picoseconds(5000),
+            rbd: Clocks(2),
+            rwd: Clocks(3),
+            wrd: Clocks(1),
+            rsc: Clocks(7),
+            refc: Clocks(18),
+        }
+    }
+
+    fn part_fits(self) -> bool
+        ensures { λ r. ⌜ r ≡ partFits self ⌝ }
+    {
+        ((self.grade == 37) | (self.grade == 50))
+            & ((3 <= self.cl) & (self.cl <= 5))
+            & ((self.bl == 2) | (self.bl == 4))
+            & ((self.organisation == 16) | (self.organisation == 8))
+    }
+
+    fn period_fits(self) -> bool
+        requires { ⌜ (3 ≤ self .cl) × (self .cl ≤ 5) ⌝ }
+        ensures { λ r. ⌜ r ≡ periodFits self ⌝ }
+    {
+        let least = least_period(self.grade, self.cl);
+        (least.0 <= self.period.0) & (self.period.0 <= GREATEST_PERIOD)
+    }
+
+    fn counts_fit(self) -> bool
+        ensures { λ r. ⌜ r ≡ countsFit self ⌝ }
+    {
+        ((2 <= self.rbd.0) & (self.rbd.0 <= 7))
+            & ((1 <= self.rwd.0) & (self.rwd.0 <= 7))
+            & ((1 <= self.wrd.0) & (self.wrd.0 <= 7))
+            & ((2 <= self.rsc.0) & (self.rsc.0 <= 15))
+            & ((15 <= self.refc.0) & (self.refc.0 <= 63))
+    }
+
+    fn derived(self) -> Timing
+        requires { ⌜ (0 < self .cl) × (0 < self .period .0) ⌝ }
+        requires { ⌜ (self .rwd .0 ≤ 7) × (self .wrd .0 ≤ 7) ⌝ }
+        ensures { λ r. ⌜ r ≡ derived self ⌝ }
+    {
+        let cycle = choose(self.cl == 5, 6, 5);
+        let turnaround = larger(self.rwd.0 + 1, self.wrd.0 + 1);
+        let spacing = larger(larger(cycle, self.rbd.0), turnaround);
+        Timing {
+            cl: self.cl,
+            bl: self.bl,
+            organisation: self.organisation,
+            rbd: self.rbd.0,
+            rwd: self.rwd.0,
+            wrd: self.wrd.0,
+            rsc: self.rsc.0,
+            refc: self.refc.0,
+            rc: cycle,
+            wl: self.cl - 1,
+            refi: 3900000 / self.period.0,
+            window: 3200000 / self.period.0 + 1,
+            spacing,
+        }
+    }
+
+    // The timing of an accepted configuration, or the refusal: 20, 21 and 22, tried in this order.
+    pub fn timing(self) -> TimingAnswer
+        ensures { λ r. ⌜ timingOutcome r ≡ timingOf self ⌝ }
+    {
+        if !self.part_fits() {
+            return TimingAnswer::Refused(Refusal::Part);
+        }
+        if !self.period_fits() {
+            return TimingAnswer::Refused(Refusal::Period);
+        }
+        if !self.counts_fit() {
+            return TimingAnswer::Refused(Refusal::Count);
+        }
+        TimingAnswer::Accepted(self.derived())
+    }
+}

@@ -1,0 +1,52 @@
+// The refusals of the whole product.
+ghost use mathlib.Core.Path.{_≡_};
+ghost use Rattle.config.specs.Numbers.{refusalNumber};
+
+pub enum Refusal {
+    // The state is not one that calls make: 19.
+    State,
+    // Grade, CL, BL or organisation: 20.
+    Part,
+    // The period: 21.
+    Period,
+    // A count of clocks out of its range: 22.
+    Count,
+    // The checker is already in breach: 23.
+    InBreach,
+    // The clock limit, 16,777,216, is reached or exceeded: 24.
+    ClockLimit,
+    // More than 65,536 bytes for the marker program: 25.
+    InputSize,
+    // A field of a request or operation out of range: 26.
+    Field,
+    // Sixteen requests wait: 27.
+    QueueFull,
+    // Two words that are no sound pair: 28.
+    NotAPair,
+    // Bytes that are not a multiple of four: 29.
+    PartialWord,
+    // More than 65,536 words to count: 30.
+    TooLong,
+}
+
+impl Refusal {
+    // The paper's number.
+    pub fn number(self) -> u32
+        ensures { λ n. ⌜ n ≡ refusalNumber self ⌝ }
+    {
+        match self {
+            Refusal::State => 19,
+            Refusal::Part => 20,
+            Refusal::Period => 21,
+            Refusal::Count => 22,
+            Refusal::InBreach => 23,
+            Refusal::ClockLimit => 24,
+            Refusal::InputSize => 25,
+            Refusal::Field => 26,
+            Refusal::QueueFull => 27,
+            Refusal::NotAPair => 28,
+            Refusal::PartialWord => 29,
+            Refusal::TooLong => 30,
+        }
+    }
+}

@@ -1,0 +1,90 @@
+// The lines that answers are written as.
+use command::Operation;
+use command::ReadAnswer;
+use command::Request;
+use command::WriteAnswer;
+use config::Refusal;
+use config::TimingAnswer;
+use libc::STDOUT_FILENO;
+
+fn text(bytes: &[u8]) {
+    io::write_all(STDOUT_FILENO, bytes);
+}
+
+// A blank and a number.
+fn number(n: u32) {
+    text(b" ");
+    io::print_decimal(STDOUT_FILENO, n as u64);
+}
+
+fn end() {
+    text(b"\n");
+}
+
+pub fn script_refused() {
+    text(b"script refused\n");
+}
+
+fn refused(why: Refusal) {
+    text(b"refused");
+    number(why.number());
+    end();
+}
+
+pub fn config(answer: TimingAnswer) {
+    text(b"config");
+    match answer {
+        TimingAnswer::Accepted(_) => number(0),
+        TimingAnswer::Refused(why) => number(why.number()),
+    }
+    end();
+}
+
+fn request(r: Request) {
+    number(r.write as u32);
+    number(r.bank);
+    number(r.row);
+    number(r.column);
+    number(r.lower);
+    number(r.upper);
+    end();
+}
+
+fn operation(o: Operation) {
+    match o {
+        Operation::Access(r) => {
+            text(b"access");
+            request(r);
+        }
+        Operation::Regular(a3) => {
+            text(b"regular");
+            number(a3 as u32);
+            end();
+        }
+        Operation::Extended(v) => {
+            text(b"extended");
+            number(v);
+            end();
+        }
+        Operation::Refresh => text(b"refresh\n"),
+    }
+}
+
+pub fn read(answer: ReadAnswer) {
+    match answer {
+        ReadAnswer::Read(o) => operation(o),
+        ReadAnswer::Refused(why) => refused(why),
+    }
+}
+
+pub fn written(answer: WriteAnswer) {
+    match answer {
+        WriteAnswer::Written(pair) => {
+            text(b"words");
+            number(pair.first);
+            number(pair.second);
+            end();
+        }
+        WriteAnswer::Refused(why) => refused(why),
+    }
+}

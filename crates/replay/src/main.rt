@@ -1,0 +1,37 @@
+// Runs a script of calls on the library and writes each answer as text (docs/REPLAY.md). A test driver: what it writes is
+// compared with another implementation.
+mod answers;
+mod calls;
+mod script;
+
+use libc::STDIN_FILENO;
+
+fn main() {
+    let mut buffer = [0u8; 65537];
+    let n = io::read_full(STDIN_FILENO, &mut buffer);
+    run(&buffer[..n]);
+}
+
+// At most 65,536 bytes, in whole words, one call after the other.
+fn run(bytes: &[u8]) {
+    if 65536 < bytes.len() {
+        answers::script_refused();
+        return;
+    }
+    if bytes.len() % 4 != 0 {
+        answers::script_refused();
+        return;
+    }
+    let mut at = 0;
+    let mut state = script::start();
+    while at < bytes.len() / 4 {
+        let step = calls::call(bytes, at, state);
+        let next = step.next;
+        if next <= at {
+            answers::script_refused();
+            return;
+        }
+        at = next;
+        state = step.state;
+    }
+}

@@ -1,0 +1,71 @@
+// The script's words, and what the program holds between calls.
+use command::Request;
+use config::Clocks;
+use config::Config;
+use config::Picoseconds;
+
+pub struct State {
+    pub config: Config,
+}
+
+// The state after a call, and the index of the word behind it; an index that is not larger refuses the script.
+pub struct Step {
+    pub state: State,
+    pub next: usize,
+}
+
+pub fn start() -> State {
+    State {
+        config: Config::institute(),
+    }
+}
+
+// The call at this index has this many words, its code among them.
+pub fn holds(bytes: &[u8], at: usize, count: usize) -> bool {
+    let words = bytes.len() / 4;
+    if words < at {
+        return false;
+    }
+    count <= words - at
+}
+
+// The index that is a number of words further on; 0 past any script.
+pub fn ahead(at: usize, count: usize) -> usize {
+    if at <= 65536 {
+        if count <= 65536 {
+            return at + count;
+        }
+    }
+    0
+}
+
+// The word that is a number of words further on.
+pub fn word(bytes: &[u8], at: usize, count: usize) -> u32 {
+    words::word_at(bytes, ahead(at, count))
+}
+
+pub fn config_at(bytes: &[u8], at: usize) -> Config {
+    Config {
+        grade: word(bytes, at, 0),
+        cl: word(bytes, at, 1),
+        bl: word(bytes, at, 2),
+        organisation: word(bytes, at, 3),
+        period: Picoseconds(word(bytes, at, 4)),
+        rbd: Clocks(word(bytes, at, 5)),
+        rwd: Clocks(word(bytes, at, 6)),
+        wrd: Clocks(word(bytes, at, 7)),
+        rsc: Clocks(word(bytes, at, 8)),
+        refc: Clocks(word(bytes, at, 9)),
+    }
+}
+
+pub fn request_at(bytes: &[u8], at: usize) -> Request {
+    Request {
+        write: word(bytes, at, 0) != 0,
+        bank: word(bytes, at, 1),
+        row: word(bytes, at, 2),
+        column: word(bytes, at, 3),
+        lower: word(bytes, at, 4),
+        upper: word(bytes, at, 5),
+    }
+}
