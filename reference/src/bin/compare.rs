@@ -1,0 +1,216 @@
+//! Plays the suites' scripts on the replay program and compares its text with this implementation's.
+
+use reference::coverage::Coverage;
+use reference::expected::{answers, Answers};
+use reference::script::{bytes, Call, Packer};
+use reference::suites::{Suite, SUITES};
+use std::io::{Read, Write};
+use std::path::PathBuf;
+use std::process::{exit, Command, Stdio};
+use std::sync::mpsc;
+use std::time::{Duration, Instant};
+
+const USAGE: &str = "compare --replay PATH|self [--scale N] [SUITE...]";
+/// How long one script may take.
+const PATIENCE: Duration = Duration::from_secs(300);
+
+/// The program under comparison: a file, or none to play the scripts on this implementation.
+struct Program(Option<PathBuf>);
+
+impl Program {
+    /// What the program writes for a script.
+    fn play(&self, script: &[u8]) -> Result<String, String> {
+        let Some(path) = &self.0 else {
+            return Ok(answers(script).text);
+        };
+        let mut child = Command::new(path)
+            .stdin(Stdio::piped())
+            .stdout(Stdio::piped())
+            .spawn()
+            .map_err(|e| format!("{}: {e}", path.display()))?;
+        let mut input = child.stdin.take().unwrap();
+        let mut output = child.stdout.take().unwrap();
+        let script = script.to_vec();
+        // A program may stop reading at a call that it refuses, so a failed write is no fault.
+        std::thread::spawn(move || input.write_all(&script));
+        let (done, finished) = mpsc::channel();
+        std::thread::spawn(move || {
+            let mut text = Vec::new();
+            let read = output.read_to_end(&mut text);
+            done.send(read.map(|_| text))
+        });
+        let Ok(text) = finished.recv_timeout(PATIENCE) else {
+            let _ = child.kill();
+            return Err(format!("no end after {} s", PATIENCE.as_secs()));
+        };
+        let text = text.map_err(|e| e.to_string())?;
+        let status = child.wait().map_err(|e| e.to_string())?;
+        if status.code().is_none() {
+            return Err(format!("ended by a signal: {status}"));
+        }
+        String::from_utf8(text).map_err(|e| e.to_string())
+    }
+}
+
+/// The counters of one suite's run.
+#[derive(Default)]
+struct Tally {
+    scripts: usize,
+    calls: usize,
+    lines: usize,
+    coverage: Coverage,
+}
+
+/// Plays one script, compares, counts. A difference ends the program.
+fn try_script(program: &Program, suite: &Suite, script: &[u8], tally: &mut Tally) {
+    let wanted = answers(script);
+    let text = match program.play(script) {
+        Ok(text) => text,
+        Err(fault) => fail(script, &wanted, wanted.calls.len(), &fault),
+    };
+    if text != wanted.text {
+        let (line, call) = difference(&wanted, &text);
+        let of = |text: &str| match text.lines().nth(line) {
+            Some(line) => line.to_string(),
+            None => "(no line)".to_string(),
+        };
+        let fault = format!(
+            "line {line} differs\n  reference: {}\n  program:   {}",
+            of(&wanted.text),
+            of(&text)
+        );
+        fail(script, &wanted, call, &fault);
+    }
+    let lines: Vec<&str> = text.lines().collect();
+    let mut start = 0;
+    for (call, &end) in wanted.calls.iter().zip(&wanted.ends) {
+        tally.coverage.answer(call, &lines[start..end]);
+        start = end;
+    }
+    for rest in &lines[start..] {
+        tally.coverage.meet(rest);
+    }
+    if let Some(promise) = suite.promise {
+        match promise(&wanted.calls, &text) {
+            Ok(seen) => seen.iter().for_each(|name| tally.coverage.meet(name)),
+            Err((call, fault)) => fail(script, &wanted, call, &fault),
+        }
+    }
+    tally.scripts += 1;
+    tally.calls += wanted.calls.len();
+    tally.lines += lines.len();
+}
+
+/// The first line that differs and the call that it answers.
+fn difference(wanted: &Answers, text: &str) -> (usize, usize) {
+    let mut ours = wanted.text.lines();
+    let mut theirs = text.lines();
+    let mut line = 0;
+    while let (Some(a), Some(b)) = (ours.next(), theirs.next()) {
+        if a != b {
+            break;
+        }
+        line += 1;
+    }
+    (line, wanted.ends.partition_point(|&end| end <= line))
+}
+
+/// Reports a fault at a call, writes the script that shows it, and ends the program.
+fn fail(script: &[u8], wanted: &Answers, call: usize, fault: &str) -> ! {
+    println!("FAILED at call {call}: {fault}");
+    let mut shown = wanted
+        .calls
+        .get(call)
+        .map_or("(end)".to_string(), |c| format!("{c:?}"));
+    shown.truncate(400);
+    println!("  call: {shown}");
+    let whole = std::env::temp_dir().join("reference-difference.hex");
+    let short = std::env::temp_dir().join("reference-difference-short.hex");
+    let hex = |bytes: &[u8]| -> String {
+        let line = |b: &[u8]| {
+            b.iter()
+                .rev()
+                .map(|b| format!("{b:02X}"))
+                .collect::<String>()
+                + "\n"
+        };
+        bytes.chunks(4).map(line).collect()
+    };
+    std::fs::write(&whole, hex(script)).expect("the difference can be written");
+    println!("  script: {}", whole.display());
+    // The calls since the last configuration show the same, if every group begins with one.
+    let played = &wanted.calls[..wanted.calls.len().min(call + 1)];
+    let fresh = |call: &Call| matches!(call, Call::Config(_));
+    let from = played.iter().rposition(fresh).unwrap_or(0);
+    let mut words = Vec::new();
+    played[from..]
+        .iter()
+        .for_each(|call| call.encode(&mut words));
+    std::fs::write(&short, hex(&bytes(&words))).expect("the difference can be written");
+    println!("  from its configuration on: {}", short.display());
+    exit(1)
+}
+
+/// Runs one suite and tells whether it met all that it promised.
+fn run(program: &Program, suite: &Suite, scale: u32) -> bool {
+    let start = Instant::now();
+    let mut tally = Tally::default();
+    let mut own = Coverage::default();
+    let mut send = |script: &[u8]| try_script(program, suite, script, &mut tally);
+    let mut packer = Packer::new(&mut send);
+    (suite.cases)(suite.seed, scale, &mut packer, &mut own);
+    packer.finish();
+    tally.coverage.add(own);
+    println!(
+        "suite {}: seed {:#x}, scale {scale}, {} scripts, {} calls, {} lines agree, {:.1} s",
+        suite.name,
+        suite.seed,
+        tally.scripts,
+        tally.calls,
+        tally.lines,
+        start.elapsed().as_secs_f64()
+    );
+    for (name, times) in &tally.coverage.met {
+        println!("  {name}: {times}");
+    }
+    let missing = tally.coverage.missing(&(suite.promised)());
+    for name in &missing {
+        println!("  NEVER MET: {name}");
+    }
+    missing.is_empty()
+}
+
+fn main() {
+    let mut program = None;
+    let mut scale = 1;
+    let mut chosen: Vec<String> = Vec::new();
+    let mut arguments = std::env::args().skip(1);
+    while let Some(argument) = arguments.next() {
+        match argument.as_str() {
+            "--replay" => program = arguments.next(),
+            "--scale" => scale = arguments.next().and_then(|n| n.parse().ok()).expect(USAGE),
+            _ => chosen.push(argument),
+        }
+    }
+    let program = match program.expect(USAGE).as_str() {
+        "self" => Program(None),
+        path => Program(Some(PathBuf::from(path))),
+    };
+    for name in &chosen {
+        assert!(SUITES.iter().any(|s| s.name == name), "no suite {name}");
+    }
+    let wanted = |suite: &&Suite| chosen.is_empty() || chosen.iter().any(|n| n == suite.name);
+    let mut sound = true;
+    for suite in SUITES.iter().filter(wanted) {
+        sound &= run(&program, suite, scale);
+    }
+    println!(
+        "{}",
+        if sound {
+            "all agree"
+        } else {
+            "coverage not met"
+        }
+    );
+    exit(if sound { 0 } else { 1 });
+}

@@ -1,0 +1,48 @@
+//! How often each answer was met, so that a run cannot pass by never trying something.
+
+use crate::script::Call;
+use std::collections::BTreeMap;
+
+/// Counters by name: `code answer` for answers, other names for what a suite counts itself.
+#[derive(Default)]
+pub struct Coverage {
+    pub met: BTreeMap<String, u64>,
+}
+
+impl Coverage {
+    /// Counts one meeting.
+    pub fn meet(&mut self, name: &str) {
+        match self.met.get_mut(name) {
+            Some(times) => *times += 1,
+            None => {
+                self.met.insert(name.to_string(), 1);
+            }
+        }
+    }
+
+    /// Counts the lines that answered a call: refusals and breaches by number, others by their word.
+    pub fn answer(&mut self, call: &Call, lines: &[&str]) {
+        for line in lines {
+            let mut parts = line.split(' ');
+            let name = parts.next().unwrap_or("");
+            let numbered = matches!(name, "refused" | "breach" | "config");
+            match parts.next_back().filter(|_| numbered) {
+                Some(number) => self.meet(&format!("{} {name} {number}", call.code())),
+                None => self.meet(&format!("{} {name}", call.code())),
+            }
+        }
+    }
+
+    /// Adds the counters of another.
+    pub fn add(&mut self, other: Coverage) {
+        for (name, times) in other.met {
+            *self.met.entry(name).or_insert(0) += times;
+        }
+    }
+
+    /// The names among those promised that were never met.
+    pub fn missing(&self, promised: &[String]) -> Vec<String> {
+        let unmet = promised.iter().filter(|name| !self.met.contains_key(*name));
+        unmet.cloned().collect()
+    }
+}

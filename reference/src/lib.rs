@@ -1,0 +1,19 @@
+//! An independent implementation of the scope paper, for comparison with the verified crates.
+//! It shares no code with them: it is written from the papers, plainly, and judges a trace by
+//! scanning its whole history.
+
+pub mod checker;
+pub mod controller;
+pub mod counts;
+pub mod coverage;
+pub mod expected;
+pub mod judge;
+pub mod pair;
+pub mod past;
+pub mod promises;
+pub mod random;
+pub mod script;
+pub mod sheet;
+pub mod suites;
+pub mod summary;
+pub mod word;

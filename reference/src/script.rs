@@ -1,0 +1,182 @@
+//! The replay program's script: each call as its code and its numbers. A further code needs a case
+//! in `Call`, in `code`, `numbers` and `decode` here, and one in the player that answers it.
+
+/// One call. Numbers are raw, so that a case can hand over any.
+#[derive(Clone, Debug, PartialEq, Eq)]
+pub enum Call {
+    /// Test the configuration and start afresh on it.
+    Config([u32; 10]),
+    /// Step the checker by the word, count times.
+    Step { count: u32, word: u32 },
+    /// The whole check.
+    Check(Vec<u32>),
+    /// Offer a request.
+    Offer([u32; 6]),
+    /// Tick count times.
+    Tick(u32),
+    /// Read the pair.
+    ReadPair(u32, u32),
+    /// Write the pair.
+    WritePair(PairNumbers),
+    /// Count the commands.
+    Count(Vec<u32>),
+    /// The requests waiting.
+    Waiting,
+}
+
+/// The operation of a pair to be written, in raw numbers.
+#[derive(Clone, Copy, Debug, PartialEq, Eq)]
+pub enum PairNumbers {
+    Access([u32; 6]),
+    Regular(u32),
+    Extended(u32),
+    Refresh,
+}
+
+/// The most words that a script can have: 65,536 bytes.
+pub const SCRIPT_WORDS: usize = 16_384;
+
+impl Call {
+    /// The call's code in the replay program's table.
+    pub fn code(&self) -> u32 {
+        match self {
+            Call::Config(_) => 1,
+            Call::Step { .. } => 2,
+            Call::Check(_) => 3,
+            Call::Offer(_) => 4,
+            Call::Tick(_) => 5,
+            Call::ReadPair(..) => 6,
+            Call::WritePair(_) => 7,
+            Call::Count(_) => 8,
+            Call::Waiting => 9,
+        }
+    }
+
+    /// The numbers that follow the code.
+    fn numbers(&self) -> Vec<u32> {
+        let counted = |words: &[u32]| [&[words.len() as u32], words].concat();
+        match self {
+            Call::Config(sheet) => sheet.to_vec(),
+            Call::Step { count, word } => vec![*count, *word],
+            Call::Check(words) | Call::Count(words) => counted(words),
+            Call::Offer(request) => request.to_vec(),
+            Call::Tick(count) => vec![*count],
+            Call::ReadPair(first, second) => vec![*first, *second],
+            Call::WritePair(PairNumbers::Access(request)) => [&[0], &request[..]].concat(),
+            Call::WritePair(PairNumbers::Regular(a3)) => vec![1, *a3],
+            Call::WritePair(PairNumbers::Extended(value)) => vec![2, *value],
+            Call::WritePair(PairNumbers::Refresh) => vec![3],
+            Call::Waiting => vec![],
+        }
+    }
+
+    /// Puts the call at the end of a script.
+    pub fn encode(&self, script: &mut Vec<u32>) {
+        script.push(self.code());
+        script.extend(self.numbers());
+    }
+
+    /// Takes the next call off a script; none at a code not listed or a call cut short.
+    pub fn decode(rest: &mut &[u32]) -> Option<Call> {
+        let call = match one(rest)? {
+            1 => Call::Config(some(rest)?),
+            2 => {
+                let [count, word] = some(rest)?;
+                Call::Step { count, word }
+            }
+            3 => Call::Check(counted(rest)?),
+            4 => Call::Offer(some(rest)?),
+            5 => Call::Tick(one(rest)?),
+            6 => {
+                let [first, second] = some(rest)?;
+                Call::ReadPair(first, second)
+            }
+            7 => Call::WritePair(match one(rest)? {
+                0 => PairNumbers::Access(some(rest)?),
+                1 => PairNumbers::Regular(one(rest)?),
+                2 => PairNumbers::Extended(one(rest)?),
+                3 => PairNumbers::Refresh,
+                _ => return None,
+            }),
+            8 => Call::Count(counted(rest)?),
+            9 => Call::Waiting,
+            _ => return None,
+        };
+        Some(call)
+    }
+}
+
+/// Takes so many words off the script.
+fn take<'a>(rest: &mut &'a [u32], count: usize) -> Option<&'a [u32]> {
+    if count > rest.len() {
+        return None;
+    }
+    let (taken, left) = rest.split_at(count);
+    *rest = left;
+    Some(taken)
+}
+
+/// Takes one word.
+fn one(rest: &mut &[u32]) -> Option<u32> {
+    take(rest, 1).map(|w| w[0])
+}
+
+/// Takes a fixed number of words.
+fn some<const N: usize>(rest: &mut &[u32]) -> Option<[u32; N]> {
+    take(rest, N).map(|w| w.try_into().unwrap())
+}
+
+/// Takes a count and so many words.
+fn counted(rest: &mut &[u32]) -> Option<Vec<u32>> {
+    let count = one(rest)?;
+    take(rest, count as usize).map(|w| w.to_vec())
+}
+
+/// A script's words as the bytes that the program reads.
+pub fn bytes(script: &[u32]) -> Vec<u8> {
+    script.iter().flat_map(|w| w.to_le_bytes()).collect()
+}
+
+/// Packs groups of calls into scripts that are as long as allowed. A group stays together, and
+/// begins with a configuration so that it does not depend on what stands before it.
+pub struct Packer<'a> {
+    script: Vec<u32>,
+    send: &'a mut dyn FnMut(&[u8]),
+}
+
+impl<'a> Packer<'a> {
+    /// A packer that hands each finished script to `send`.
+    pub fn new(send: &'a mut dyn FnMut(&[u8])) -> Packer<'a> {
+        Packer {
+            script: Vec::new(),
+            send,
+        }
+    }
+
+    /// Adds a group of calls.
+    pub fn group(&mut self, calls: &[Call]) {
+        let mut words = Vec::new();
+        for call in calls {
+            call.encode(&mut words);
+        }
+        assert!(words.len() <= SCRIPT_WORDS, "a group longer than a script");
+        if self.script.len() + words.len() > SCRIPT_WORDS {
+            self.finish();
+        }
+        self.script.extend(words);
+    }
+
+    /// Sends what was gathered.
+    pub fn finish(&mut self) {
+        if !self.script.is_empty() {
+            (self.send)(&bytes(&self.script));
+            self.script.clear();
+        }
+    }
+
+    /// Sends a script of its own, of any bytes.
+    pub fn raw(&mut self, script: &[u8]) {
+        self.finish();
+        (self.send)(script);
+    }
+}

@@ -1,0 +1,138 @@
+//! The sheet: the numbers that a trace is judged by, their refusals and the figures derived from them.
+
+/// The ten numbers of a sheet as the setter wrote them, accepted or not.
+#[derive(Clone, Copy, Debug, PartialEq, Eq)]
+pub struct Sheet {
+    pub grade: u32,
+    pub cl: u32,
+    pub bl: u32,
+    pub org: u32,
+    /// The clock period in picoseconds; every other figure below is a count of clocks.
+    pub period: u32,
+    pub rbd: u32,
+    pub rwd: u32,
+    pub wrd: u32,
+    pub rsc: u32,
+    pub refc: u32,
+}
+
+/// The institute's own sheet.
+pub const SHEET_E: Sheet = Sheet {
+    grade: 37,
+    cl: 4,
+    bl: 4,
+    org: 16,
+    period: 5000,
+    rbd: 2,
+    rwd: 3,
+    wrd: 1,
+    rsc: 7,
+    refc: 18,
+};
+
+/// The greatest clock period of either grade, in picoseconds.
+pub const GREATEST_PERIOD: u32 = 8500;
+
+/// The ranges of the five counts, in the order RBD, RWD, WRD, RSC, REFC.
+pub const COUNT_RANGES: [(u32, u32); 5] = [(2, 7), (1, 7), (1, 7), (2, 15), (15, 63)];
+
+/// The maker's table of least periods; none for a grade or CL that the table does not have.
+pub fn least_period(grade: u32, cl: u32) -> Option<u32> {
+    match (grade, cl) {
+        (37, 3) => Some(5500),
+        (37, 4) => Some(4500),
+        (37, 5) => Some(3750),
+        (50, 3) => Some(6000),
+        (50, 4) => Some(5500),
+        (50, 5) => Some(5000),
+        _ => None,
+    }
+}
+
+impl Sheet {
+    /// A sheet from its ten numbers in the paper's order.
+    pub fn from_numbers(n: [u32; 10]) -> Sheet {
+        Sheet {
+            grade: n[0],
+            cl: n[1],
+            bl: n[2],
+            org: n[3],
+            period: n[4],
+            rbd: n[5],
+            rwd: n[6],
+            wrd: n[7],
+            rsc: n[8],
+            refc: n[9],
+        }
+    }
+
+    /// The ten numbers in the paper's order.
+    pub fn numbers(&self) -> [u32; 10] {
+        [
+            self.grade,
+            self.cl,
+            self.bl,
+            self.org,
+            self.period,
+            self.rbd,
+            self.rwd,
+            self.wrd,
+            self.rsc,
+            self.refc,
+        ]
+    }
+
+    /// The five counts of clocks in the paper's order.
+    pub fn counts(&self) -> [u32; 5] {
+        [self.rbd, self.rwd, self.wrd, self.rsc, self.refc]
+    }
+
+    /// The sheet's own refusal: 20 grade, CL, BL or organisation; then 21 period; then 22 a count.
+    pub fn refusal(&self) -> Option<u32> {
+        let grade_fits = self.grade == 37 || self.grade == 50;
+        let cl_fits = self.cl == 3 || self.cl == 4 || self.cl == 5;
+        let bl_fits = self.bl == 2 || self.bl == 4;
+        let org_fits = self.org == 16 || self.org == 8;
+        if !(grade_fits && cl_fits && bl_fits && org_fits) {
+            return Some(20);
+        }
+        let least = least_period(self.grade, self.cl).unwrap();
+        if self.period < least || self.period > GREATEST_PERIOD {
+            return Some(21);
+        }
+        for (count, (low, high)) in self.counts().into_iter().zip(COUNT_RANGES) {
+            if count < low || count > high {
+                return Some(22);
+            }
+        }
+        None
+    }
+
+    /// RC, the spacing of two reads or writes of one bank. Of accepted sheets only, as all below.
+    pub fn rc(&self) -> u32 {
+        match self.cl {
+            3 | 4 => 5,
+            _ => 6,
+        }
+    }
+
+    /// WL, the write latency.
+    pub fn wl(&self) -> u32 {
+        self.cl - 1
+    }
+
+    /// D, the greatest number of clocks from one REF word to the next.
+    pub fn d(&self) -> u32 {
+        3_900_000 / self.period
+    }
+
+    /// W, the least number of clocks over eight refresh intervals.
+    pub fn w(&self) -> u32 {
+        3_200_000 / self.period + 1
+    }
+
+    /// S, the longest spacing between two reads or writes.
+    pub fn s(&self) -> u32 {
+        self.rc().max(self.rbd).max(self.rwd + 1).max(self.wrd + 1)
+    }
+}

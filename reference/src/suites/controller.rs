@@ -1,0 +1,241 @@
+//! The controller: codes 4, 5 and 9. What is written is compared with the reference controller's
+//! and also held against the promises of demand 3.
+
+use super::{names, pool};
+use crate::coverage::Coverage;
+use crate::judge::LONGEST;
+use crate::pair::column_pins;
+use crate::random::Random;
+use crate::script::{Call, Packer};
+use crate::sheet::{Sheet, SHEET_E};
+
+/// The number of ways in which a list of calls goes.
+const WAYS: u32 = 10;
+
+/// What this suite must meet.
+pub fn promised() -> Vec<String> {
+    let refusals = ["refused 20", "refused 21", "refused 22"];
+    let mut promised = [
+        names(4, &refusals),
+        names(4, &["offered", "refused 26", "refused 27"]),
+        names(5, &refusals),
+        names(5, &["word", "clock", "refused 24"]),
+        names(9, &["waiting", "request"]),
+    ]
+    .concat();
+    promised.push("waiting shown as accepted and not yet carried".to_string());
+    promised.push("first word before its bound by 8 to 31".to_string());
+    promised.push("list ended".to_string());
+    promised
+}
+
+/// All cases of the suite.
+pub fn cases(seed: u64, scale: u32, packer: &mut Packer, _coverage: &mut Coverage) {
+    let random = Random::new(seed);
+    unfit_sheets(&random, packer);
+    for round in 0..scale {
+        for (i, sheet) in pool::corners().into_iter().enumerate() {
+            list(&random, packer, &sheet, (round + i as u32) % WAYS);
+        }
+        for way in 0..8_000 {
+            let sheet = pool::sheet(&random);
+            list(&random, packer, &sheet, way % WAYS);
+        }
+    }
+    last_clock(&random, packer);
+}
+
+/// A request in range, of any bank among the given ones.
+fn offer(random: &Random, sheet: &Sheet, banks: &[u32]) -> Call {
+    let write = random.once_in(2);
+    let bank = random.pick(banks);
+    Call::Offer(pool::request(random, sheet, write, bank).numbers())
+}
+
+/// A request with one field out of range.
+fn unfit_offer(random: &Random, sheet: &Sheet) -> Call {
+    let write = random.once_in(2);
+    let mut numbers = pool::request(random, sheet, write, random.below(8)).numbers();
+    let (field, least) = random.pick(&[
+        (1, 8),
+        (2, 16_384),
+        (3, column_pins(sheet) + 1),
+        (4, 5),
+        (5, 5),
+    ]);
+    numbers[field] = random.pick(&[least, least + 1, least | 1 << 31, u32::MAX]);
+    if random.once_in(3) {
+        numbers[4] = random.pick(&[3, if write { 0 } else { 1 }]);
+    }
+    Call::Offer(numbers)
+}
+
+/// One list of calls on a sheet, going in the given way.
+fn list(random: &Random, packer: &mut Packer, sheet: &Sheet, way: u32) {
+    let all: Vec<u32> = (0..8).collect();
+    let mut calls = vec![pool::config(sheet)];
+    match way {
+        0 => calls.push(Call::Tick(random.below(4 * sheet.d()))),
+        1 => {
+            calls.push(Call::Tick(random.pick(&[
+                0,
+                1,
+                200,
+                201,
+                202,
+                random.below(1_000),
+            ])));
+            calls.push(offer(random, sheet, &all));
+            calls.push(Call::Tick(random.pick(&[1, 2, 250])));
+        }
+        2 => always_full(random, sheet, &all, &mut calls),
+        3 => always_full(random, sheet, &[random.below(8)], &mut calls),
+        4 => always_full(random, sheet, &[1, 6], &mut calls),
+        5 => bursts(random, sheet, 20, 120, &mut calls),
+        6 => bursts(random, sheet, 12, 2_000, &mut calls),
+        7 => around_a_refresh(random, sheet, &mut calls),
+        8 => tick_by_tick(random, sheet, &mut calls),
+        _ => refused_between(random, sheet, &mut calls),
+    }
+    calls.push(Call::Tick(0));
+    calls.push(Call::Waiting);
+    packer.group(&calls);
+}
+
+/// Offers until sixteen wait, and again after every few ticks.
+fn always_full(random: &Random, sheet: &Sheet, banks: &[u32], calls: &mut Vec<Call>) {
+    if random.once_in(2) {
+        calls.push(Call::Tick(random.between(150, 260)));
+    }
+    for _ in 0..17 {
+        calls.push(offer(random, sheet, banks));
+    }
+    let at_first = random.pick(&[1, 190, 210]);
+    calls.push(Call::Tick(at_first));
+    for _ in 0..100 {
+        calls.push(Call::Tick(random.between(1, 12)));
+        for _ in 0..random.between(1, 3) {
+            calls.push(offer(random, sheet, banks));
+        }
+    }
+}
+
+/// Some offers at once, then some ticks, again and again.
+fn bursts(random: &Random, sheet: &Sheet, rounds: u32, most: u32, calls: &mut Vec<Call>) {
+    for _ in 0..rounds {
+        let banks = random.pick(&[&[0][..], &[0, 1], &[0, 1, 2, 3, 4, 5, 6, 7]]);
+        for _ in 0..random.pick(&[0, 1, 2, 5, 16, 18]) {
+            calls.push(offer(random, sheet, banks));
+        }
+        if random.once_in(3) {
+            calls.push(Call::Waiting);
+        }
+        calls.push(Call::Tick(random.below(most)));
+    }
+}
+
+/// Offers before, in and after the third refresh, with some requests under way.
+fn around_a_refresh(random: &Random, sheet: &Sheet, calls: &mut Vec<Call>) {
+    let second_ref = 2 * sheet.rsc + sheet.refc + 1;
+    let call_point = second_ref + sheet.d() - sheet.rc();
+    calls.push(Call::Tick(call_point - random.below(16)));
+    for _ in 0..random.below(3) {
+        calls.push(offer(random, sheet, &[0, 1]));
+    }
+    for _ in 0..30 {
+        calls.push(Call::Tick(1));
+        if random.once_in(3) {
+            calls.push(offer(random, sheet, &[0, 1]));
+        }
+        if random.once_in(10) {
+            calls.push(Call::Waiting);
+        }
+    }
+    calls.push(Call::Tick(random.below(200)));
+}
+
+/// One tick a call, the requests shown now and then.
+fn tick_by_tick(random: &Random, sheet: &Sheet, calls: &mut Vec<Call>) {
+    calls.push(offer(random, sheet, &[3]));
+    calls.push(Call::Tick(random.below(195)));
+    for _ in 0..100 {
+        calls.push(Call::Tick(1));
+        if random.once_in(6) {
+            calls.push(offer(random, sheet, &[3, 4]));
+        }
+        if random.once_in(6) {
+            calls.push(Call::Waiting);
+        }
+    }
+}
+
+/// Requests with a field out of range between others, with places open and with none.
+fn refused_between(random: &Random, sheet: &Sheet, calls: &mut Vec<Call>) {
+    for _ in 0..60 {
+        calls.push(match random.below(4) {
+            0 => Call::Tick(random.below(30)),
+            1 => unfit_offer(random, sheet),
+            _ => offer(random, sheet, &[0, 2, 7]),
+        });
+    }
+    calls.push(Call::Waiting);
+    calls.push(Call::Tick(random.below(300)));
+}
+
+/// Sheets that are refused, before anything else is looked at.
+fn unfit_sheets(random: &Random, packer: &mut Packer) {
+    for (field, value) in [
+        (0, 38),
+        (1, 6),
+        (2, 3),
+        (3, 4),
+        (4, 8501),
+        (4, 0),
+        (5, 1),
+        (9, 64),
+    ] {
+        let mut numbers = SHEET_E.numbers();
+        numbers[field] = value;
+        packer.group(&[
+            Call::Config(numbers),
+            Call::Tick(0),
+            Call::Tick(3),
+            offer(random, &SHEET_E, &[0]),
+            unfit_offer(random, &SHEET_E),
+            Call::Waiting,
+            Call::Tick(0),
+        ]);
+    }
+}
+
+/// The last clock: reached idle, with a request opened on the clock before it, and with requests
+/// all along.
+fn last_clock(random: &Random, packer: &mut Packer) {
+    let mut calls = vec![pool::config(&SHEET_E), Call::Tick(LONGEST - 1)];
+    calls.push(offer(random, &SHEET_E, &[0]));
+    calls.extend([1, 1, 0, 5].map(Call::Tick));
+    calls.push(Call::Waiting);
+    for _ in 0..17 {
+        calls.push(offer(random, &SHEET_E, &[0]));
+    }
+    calls.push(unfit_offer(random, &SHEET_E));
+    calls.extend([Call::Tick(1), Call::Tick(0), Call::Waiting]);
+    packer.group(&calls);
+
+    let sheet = pool::sheet(random);
+    packer.group(&[
+        pool::config(&sheet),
+        Call::Tick(u32::MAX),
+        Call::Tick(0),
+        Call::Waiting,
+    ]);
+
+    let sheet = pool::sheet(random);
+    let mut calls = vec![pool::config(&sheet)];
+    for _ in 0..1_700 {
+        calls.push(offer(random, &sheet, &[0, 5]));
+        calls.push(Call::Tick(random.below(20_000)));
+    }
+    calls.extend([Call::Tick(LONGEST), Call::Tick(0), Call::Waiting]);
+    packer.group(&calls);
+}

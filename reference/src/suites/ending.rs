@@ -1,0 +1,225 @@
+//! The ways in which a trace of the checker's suite ends, each near some edge of the rules.
+
+use super::trace::{part_name, some_kind, Trace};
+use crate::coverage::Coverage;
+use crate::pair::Kind;
+use crate::past::Past;
+use crate::random::Random;
+use crate::word::{a, BA0, BA1, BA2, CS, DESL, PD};
+
+/// The number of ways.
+pub const WAYS: u32 = 11;
+
+/// Ends a trace in one of the ways.
+pub fn end(way: u32, trace: &mut Trace, random: &Random, coverage: &mut Coverage) {
+    match way {
+        0 => trace.idle_until(trace.clock() + random.below(30)),
+        1 => one_clock_early(trace, random, coverage),
+        2 => early_and_wrong(trace, random),
+        3 => refresh_at_the_last_clock(trace, random, coverage),
+        4 => overdue_pair(trace, random, coverage),
+        5 => nine_refreshes(trace, random, coverage),
+        6 => damage(trace, random),
+        7 => open_pair(trace, random),
+        8 => older_pair_binds(trace, random, coverage),
+        9 => access_soon_after(trace, random, coverage),
+        _ => access_after_a_wait(trace, random),
+    }
+}
+
+/// Counts the parts of rules that a pair put now breaks by a single clock.
+fn by_one_clock(trace: &Trace, words: (u32, u32), coverage: &mut Coverage) {
+    for broken in trace.broken_by(words) {
+        coverage.meet(&format!("broken by one clock: {}", part_name(&broken)));
+    }
+}
+
+/// A pair one clock before its earliest, if it has to wait at all.
+fn one_clock_early(trace: &mut Trace, random: &Random, coverage: &mut Coverage) {
+    let kind = some_kind(random);
+    let words = trace.words_of(random, kind, random.pick(&[0, 1]));
+    if let Some(clock) = trace.earliest(words).filter(|&c| c > trace.clock()) {
+        trace.idle_until(clock - 1);
+        by_one_clock(trace, words, coverage);
+    }
+    trace.pair(words);
+}
+
+/// A pair at any clock before its earliest, often wrong in its pins too.
+fn early_and_wrong(trace: &mut Trace, random: &Random) {
+    let kind = some_kind(random);
+    let words = trace.words_of(random, kind, random.pick(&[0, 1]));
+    if let Some(clock) = trace.earliest(words) {
+        let wait = random.below((clock - trace.clock()).min(20) + 1);
+        trace.idle_until(clock - wait);
+    }
+    trace.pair(spoil(random, kind, words));
+}
+
+/// The words with some of their pins put wrong.
+fn spoil(random: &Random, kind: Kind, (mut first, mut second): (u32, u32)) -> (u32, u32) {
+    if random.once_in(2) && kind.is_mode() {
+        second ^= random.pick(&[BA2, BA1, BA0, a(0), a(1), a(6), a(7), a(13)]);
+    }
+    if random.once_in(2) && kind == Kind::Write {
+        second &= random.pick(&[!(BA2 | a(13)), !(a(12) | a(11))]);
+    }
+    if random.once_in(3) {
+        second &= !PD;
+    }
+    if random.once_in(3) {
+        second |= 1 << random.between(20, 31);
+    }
+    if random.once_in(20) {
+        first ^= random.pick(&[PD, 1 << 20, 1 << 31]);
+    }
+    (first, second)
+}
+
+/// A REF word at exactly D after the last, or one clock later, or none at all.
+fn refresh_at_the_last_clock(trace: &mut Trace, random: &Random, coverage: &mut Coverage) {
+    let Some(last) = trace.past.last_ref() else {
+        return trace.idle_until(trace.clock() + 1000);
+    };
+    let limit = last + trace.sheet.d();
+    let choice = random.below(3);
+    trace.idle_until(limit - 1 + choice);
+    let words = trace.words_of(random, Kind::Refresh, 0);
+    if choice == 0 && trace.broken_by(words).is_empty() {
+        coverage.meet("kept at its edge: 3 D");
+        trace.pair(words);
+        return trace.idle_until(limit + random.below(3) * trace.sheet.d());
+    }
+    if choice == 1 {
+        by_one_clock(trace, words, coverage);
+    }
+    trace.pair(words);
+}
+
+/// A pair whose closing word is the first that comes too late for the refresh, other pairs before.
+fn overdue_pair(trace: &mut Trace, random: &Random, coverage: &mut Coverage) {
+    let Some(last) = trace.past.last_ref() else {
+        return;
+    };
+    let limit = last + trace.sheet.d();
+    trace.idle_until(limit - random.between(3, 14));
+    for _ in 0..random.below(4) {
+        let kind = some_kind(random);
+        let words = trace.words_of(random, kind, random.pick(&[0, 1]));
+        let fits = trace.earliest(words).is_some_and(|clock| clock + 1 < limit);
+        if fits && kind != Kind::Refresh {
+            trace.put(words, coverage);
+        }
+    }
+    trace.idle_until(limit);
+    let kind = some_kind(random);
+    let words = trace.words_of(random, kind, random.pick(&[0, 1]));
+    trace.pair(spoil(random, kind, words));
+}
+
+/// Refreshes as close as allowed, and one more where the eighth last still binds, maybe beside
+/// something else that binds.
+fn nine_refreshes(trace: &mut Trace, random: &Random, coverage: &mut Coverage) {
+    for _ in 0..random.between(7, 9) {
+        if !trace.put_kind(random, Kind::Refresh, coverage) {
+            return;
+        }
+    }
+    if random.once_in(2) {
+        trace.put_kind(random, some_kind(random), coverage);
+    }
+    let words = trace.words_of(random, Kind::Refresh, random.below(8));
+    if let Some(clock) = trace.earliest(words) {
+        let wait = clock - trace.clock();
+        let early = random.pick(&[0, 1, wait, wait - random.below(wait.min(5) + 1)]);
+        trace.idle_until(clock - early.min(wait));
+        if early == 1 && wait > 0 {
+            by_one_clock(trace, words, coverage);
+        }
+    }
+    let words = if random.once_in(4) {
+        spoil(random, Kind::Refresh, words)
+    } else {
+        words
+    };
+    trace.pair(words);
+    trace.idle_until(trace.clock() + random.below(3));
+}
+
+/// Bits turned over, words lost or doubled, anywhere.
+fn damage(trace: &mut Trace, random: &Random) {
+    for _ in 0..random.between(1, 3) {
+        if trace.words.is_empty() {
+            return;
+        }
+        let busy: Vec<usize> = (0..trace.words.len())
+            .filter(|&i| trace.words[i] != DESL)
+            .collect();
+        let anywhere = random.below(trace.words.len() as u32) as usize;
+        let place = match busy.len() as u32 {
+            0 => anywhere,
+            _ if random.once_in(4) => anywhere,
+            n => busy[random.below(n) as usize],
+        };
+        match random.below(6) {
+            0 => {
+                trace.words.remove(place);
+            }
+            1 => trace.words.insert(place, trace.words[place]),
+            2 => trace.words[place] = random.bits(),
+            _ => trace.words[place] ^= 1 << random.below(if random.once_in(4) { 32 } else { 20 }),
+        }
+    }
+}
+
+/// A first word and no second.
+fn open_pair(trace: &mut Trace, random: &Random) {
+    let words = trace.words_of(random, some_kind(random), random.below(8));
+    trace.idle_until(trace.clock() + random.below(5));
+    trace.word(words.0 & !CS);
+}
+
+/// Reads or writes of one bank with those of another between, the last one at the edge of RC.
+fn older_pair_binds(trace: &mut Trace, random: &Random, coverage: &mut Coverage) {
+    let kinds = [Kind::Read, Kind::Write];
+    let kind = random.pick(&kinds);
+    let words = trace.words_of(random, kind, 5);
+    if !trace.put(words, coverage) {
+        return;
+    }
+    let start = trace.clock() - 2;
+    let between = trace.words_of(random, random.pick(&kinds), 6);
+    let fits = trace
+        .earliest(between)
+        .is_some_and(|clock| clock + 2 < start + trace.sheet.rc());
+    if fits {
+        trace.put(between, coverage);
+        coverage.meet("an older pair of the bank binds");
+    }
+    let again = trace.words_of(random, random.pick(&kinds), 5);
+    let early = random.below(2);
+    trace.idle_until(start + trace.sheet.rc() - early);
+    trace.pair(again);
+}
+
+/// A read or write, a mode or refresh as soon as allowed, and a read or write right after.
+fn access_soon_after(trace: &mut Trace, random: &Random, coverage: &mut Coverage) {
+    let kinds = [Kind::Read, Kind::Write];
+    let others = [Kind::Regular, Kind::Extended, Kind::Refresh];
+    if !trace.put_kind(random, random.pick(&kinds), coverage) {
+        return;
+    }
+    trace.put_kind(random, random.pick(&others), coverage);
+    trace.idle_until(trace.clock() + random.below(2));
+    let kind = random.pick(&kinds);
+    let words = trace.words_of(random, kind, random.pick(&[0, 3]));
+    trace.pair(spoil(random, kind, words));
+}
+
+/// A read or write well after all else, which only a start-up that is not whole forbids.
+fn access_after_a_wait(trace: &mut Trace, random: &Random) {
+    trace.idle_until(trace.clock() + random.between(100, 300));
+    let kind = random.pick(&[Kind::Read, Kind::Write]);
+    let words = trace.words_of(random, kind, random.below(8));
+    trace.pair(words);
+}

@@ -1,0 +1,79 @@
+//! Traces for the checker's suite that fill a script, or reach the last clock.
+
+use super::pool;
+use super::trace::Trace;
+use crate::coverage::Coverage;
+use crate::judge::LONGEST;
+use crate::pair::Kind;
+use crate::past::Past;
+use crate::random::Random;
+use crate::script::{Call, Packer};
+use crate::sheet::SHEET_E;
+use crate::summary::Summary;
+use crate::word::{DESL, FN, PD};
+
+/// A trace of thousands of pairs, each as soon as allowed, that fills a script.
+pub fn dense(random: &Random, packer: &mut Packer) {
+    let mut sheet = pool::sheet(random);
+    (sheet.rbd, sheet.rwd, sheet.wrd) = (2, random.between(1, 3), 1);
+    let mut start = Trace::new(sheet);
+    for kind in [Kind::Extended, Kind::Regular, Kind::Refresh, Kind::Refresh] {
+        start.put_kind(random, kind, &mut Coverage::default());
+    }
+    start.idle_until(201);
+    let mut words = start.words;
+    let mut past = Summary::fresh();
+    words.iter().for_each(|&word| past.push(word));
+    while words.len() < 8_000 {
+        let due = past.last_ref().unwrap() + sheet.d() - 20;
+        let kind = match past.clock() > due {
+            true => Kind::Refresh,
+            false => random.pick(&[Kind::Read, Kind::Write]),
+        };
+        let bank = random.below(8);
+        let operation = pool::operation(random, &sheet, kind, bank);
+        let pair = pool::noisy(random, &sheet, kind, &operation);
+        while !past.admits(&sheet, pair) {
+            past.push(DESL);
+            words.push(DESL);
+        }
+        for word in [pair.0, pair.1] {
+            past.push(word);
+            words.push(word);
+        }
+    }
+    let whole = [Call::Check(words.clone()), Call::Count(words.clone())];
+    packer.group(&[pool::config(&sheet), whole[0].clone()]);
+    packer.group(&[pool::config(&sheet), whole[1].clone()]);
+    let spoilt = words.len() - 1 - random.below(40) as usize;
+    words[spoilt] ^= 1 << random.below(20);
+    packer.group(&[pool::config(&sheet), Call::Check(words)]);
+}
+
+/// The last clock: 24 there, for a good word and a bad one, and 23 ahead of it after a breach.
+pub fn last_clock(packer: &mut Packer) {
+    let mut quick = SHEET_E;
+    quick.rsc = 2;
+    let fresh = pool::config(&quick);
+    let step = |count, word| Call::Step { count, word };
+    let extended = PD | FN | 0x4000;
+    packer.group(&[
+        fresh.clone(),
+        step(LONGEST - 1, DESL),
+        step(1, DESL),
+        step(1, DESL),
+        step(1, 0),
+        step(0, 0),
+        fresh.clone(),
+        step(u32::MAX, DESL),
+        step(0, DESL),
+        fresh.clone(),
+        step(LONGEST - 1, DESL),
+        step(1, 0),
+        step(1, DESL),
+        step(0, DESL),
+        fresh,
+        step(LONGEST - 1, extended),
+        step(2, extended),
+    ]);
+}

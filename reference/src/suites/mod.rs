@@ -1,0 +1,68 @@
+//! The suites: generators of scripts, each with the answers that it promises to meet.
+
+pub mod checker;
+pub mod controller;
+mod ending;
+mod long;
+pub mod pairs;
+pub mod pool;
+pub mod scripts;
+mod sheets;
+mod trace;
+
+use crate::coverage::Coverage;
+use crate::promises;
+use crate::script::{Call, Packer};
+
+/// A check of calls and the text that answered them.
+pub type Promise = fn(calls: &[Call], text: &str) -> Result<Vec<String>, (usize, String)>;
+
+/// A suite of scripts.
+pub struct Suite {
+    pub name: &'static str,
+    pub seed: u64,
+    /// Sends the scripts to the packer and counts what the answers do not show.
+    pub cases: fn(seed: u64, scale: u32, packer: &mut Packer, coverage: &mut Coverage),
+    /// The names that its coverage must hold at the end.
+    pub promised: fn() -> Vec<String>,
+    /// A further check of what the program wrote for the calls: names for the coverage, or the
+    /// call and the fault.
+    pub promise: Option<Promise>,
+}
+
+/// All suites, in the order in which they run.
+pub const SUITES: [Suite; 4] = [
+    Suite {
+        name: "pairs",
+        seed: 0x5EED_0001,
+        cases: pairs::cases,
+        promised: pairs::promised,
+        promise: None,
+    },
+    Suite {
+        name: "checker",
+        seed: 0x5EED_0002,
+        cases: checker::cases,
+        promised: checker::promised,
+        promise: None,
+    },
+    Suite {
+        name: "controller",
+        seed: 0x5EED_0003,
+        cases: controller::cases,
+        promised: controller::promised,
+        promise: Some(promises::check),
+    },
+    Suite {
+        name: "scripts",
+        seed: 0x5EED_0004,
+        cases: scripts::cases,
+        promised: scripts::promised,
+        promise: Some(promises::check),
+    },
+];
+
+/// Names of coverage, `code answer` for each answer.
+fn names(code: u32, answers: &[&str]) -> Vec<String> {
+    answers.iter().map(|a| format!("{code} {a}")).collect()
+}

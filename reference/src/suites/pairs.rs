@@ -1,0 +1,185 @@
+//! Sheets, and pairs read and written: codes 1, 6 and 7.
+
+use super::{names, pool, sheets};
+use crate::coverage::Coverage;
+use crate::pair::{self, column_pins, Kind, Operation};
+use crate::random::Random;
+use crate::script::{Call, Packer, PairNumbers};
+use crate::sheet::Sheet;
+use crate::word::{CS, FN, PD};
+
+const MAX: u32 = u32::MAX;
+const KINDS: [Kind; 5] = [
+    Kind::Read,
+    Kind::Write,
+    Kind::Regular,
+    Kind::Extended,
+    Kind::Refresh,
+];
+
+/// What this suite must meet.
+pub fn promised() -> Vec<String> {
+    let config = ["config 0", "config 20", "config 21", "config 22"];
+    let refusals = ["refused 20", "refused 21", "refused 22"];
+    let read = ["access", "regular", "extended", "refresh", "refused 28"];
+    let write = ["words", "refused 26"];
+    [
+        names(1, &config),
+        names(6, &refusals),
+        names(6, &read),
+        names(7, &refusals),
+        names(7, &write),
+    ]
+    .concat()
+}
+
+/// All cases of the suite.
+pub fn cases(seed: u64, scale: u32, packer: &mut Packer, _coverage: &mut Coverage) {
+    let random = Random::new(seed);
+    sheets::edges(&random, packer);
+    sheets::faults(&random, packer, scale);
+    for sheet in pool::parts() {
+        written(&random, packer, &sheet);
+        damaged(&random, packer, &sheet, scale);
+        random_words(&random, packer, &sheet, scale);
+    }
+    every_word(&random, packer);
+}
+
+/// Fields in and out of range, written; and what was written, read back.
+fn written(random: &Random, packer: &mut Packer, sheet: &Sheet) {
+    let most = column_pins(sheet);
+    let banks = [0, 1, 2, 3, 4, 5, 6, 7, 8, 9, 256, MAX];
+    let rows = [0, 1, 0x1555, 0x2AAA, 16_382, 16_383, 16_384, 65_536, MAX];
+    let columns = [0, 1, 127, 128, most - 1, most, most + 1, 512, 65_536, MAX];
+    let lanes = [0, 1, 2, 3, 4, 5, 8, 256, 258, MAX];
+    let kinds = [0, 1, 2, 256, MAX];
+    let mut calls = vec![pool::config(sheet)];
+    for bank in banks {
+        for row in rows {
+            for column in columns {
+                let write = random.pick(&kinds);
+                let fit = pool::request(random, sheet, write != 0, 0);
+                access(
+                    sheet,
+                    [write, bank, row, column, fit.lower, fit.upper],
+                    &mut calls,
+                );
+            }
+        }
+    }
+    for write in kinds {
+        for lower in lanes {
+            for upper in lanes {
+                let (bank, row) = (random.below(8), random.below(16_384));
+                let column = random.below(most + 1);
+                access(sheet, [write, bank, row, column, lower, upper], &mut calls);
+            }
+        }
+    }
+    for value in (0..70).chain([127, 128, 256, 1 << 31, MAX]) {
+        write_and_read(
+            sheet,
+            PairNumbers::Extended(value),
+            Operation::Extended(value),
+            &mut calls,
+        );
+    }
+    for a3 in [0, 1, 2, 256, MAX] {
+        write_and_read(
+            sheet,
+            PairNumbers::Regular(a3),
+            Operation::Regular(a3 != 0),
+            &mut calls,
+        );
+    }
+    write_and_read(sheet, PairNumbers::Refresh, Operation::Refresh, &mut calls);
+    chunked(packer, &calls);
+}
+
+/// The calls for one request.
+fn access(sheet: &Sheet, numbers: [u32; 6], calls: &mut Vec<Call>) {
+    let operation = Operation::Access(pair::Request::from_numbers(numbers));
+    write_and_read(sheet, PairNumbers::Access(numbers), operation, calls);
+}
+
+/// Writing the operation and, if it can be written, reading it back.
+fn write_and_read(
+    sheet: &Sheet,
+    numbers: PairNumbers,
+    operation: Operation,
+    calls: &mut Vec<Call>,
+) {
+    calls.push(Call::WritePair(numbers));
+    if let Ok((first, second)) = pair::write(sheet, &operation) {
+        calls.push(Call::ReadPair(first, second));
+    }
+}
+
+/// Sends calls after one configuration in groups that fit a script.
+fn chunked(packer: &mut Packer, calls: &[Call]) {
+    for chunk in calls[1..].chunks(1500) {
+        packer.group(&[&calls[..1], chunk].concat());
+    }
+}
+
+/// Pairs with their ignored pins at random, each of the 64 bits turned over in turn.
+fn damaged(random: &Random, packer: &mut Packer, sheet: &Sheet, scale: u32) {
+    let mut calls = vec![pool::config(sheet)];
+    for kind in KINDS {
+        for _ in 0..20 * scale {
+            let bank = random.below(8);
+            let operation = pool::operation(random, sheet, kind, bank);
+            let (first, second) = pool::noisy(random, sheet, kind, &operation);
+            calls.push(Call::ReadPair(first, second));
+            for bit in 0..32 {
+                calls.push(Call::ReadPair(first ^ 1 << bit, second));
+                calls.push(Call::ReadPair(first, second ^ 1 << bit));
+            }
+        }
+    }
+    chunked(packer, &calls);
+}
+
+/// Words at random: of all bits, of the pins, and of the pins with PD high.
+fn random_words(random: &Random, packer: &mut Packer, sheet: &Sheet, scale: u32) {
+    let mut calls = vec![pool::config(sheet)];
+    for _ in 0..2_000 * scale {
+        let (clear, set) = random.pick(&[(MAX, 0), (0xF_FFFF, 0), (0xF_FFFF, PD)]);
+        let word = || (random.bits() & clear) | set;
+        let (first, second) = (word(), word());
+        calls.push(Call::ReadPair(first, second));
+        calls.push(Call::ReadPair(first & !CS, second));
+        calls.push(Call::ReadPair(first & !CS, second & 0xC_407F));
+    }
+    chunked(packer, &calls);
+}
+
+/// Every setting of A0 to A13, BA0 to BA2 and FN: on MRS, REF and both LALs for each CL, BL and
+/// organisation, and on each first word, the other word being a fitting one.
+fn every_word(random: &Random, packer: &mut Packer) {
+    for sheet in pool::parts().into_iter().filter(|s| s.grade == 37) {
+        let mut calls = vec![pool::config(&sheet)];
+        for pins in 0..1 << 17 {
+            let opens = random.pick(&[PD, PD | FN]) | (random.bits() & 0x1_FFFF);
+            if sheet.org == 16 {
+                calls.push(Call::ReadPair(PD | FN, PD | pins));
+            }
+            if sheet.cl == 4 {
+                calls.push(Call::ReadPair(opens, PD | CS | pins));
+                calls.push(Call::ReadPair(PD, PD | CS | pins));
+            }
+        }
+        chunked(packer, &calls);
+    }
+    let sheet = pool::parts()[0];
+    let mut calls = vec![pool::config(&sheet)];
+    for pins in 0..1 << 18 {
+        calls.push(Call::ReadPair(
+            PD | pins,
+            PD | CS | (random.bits() & 0x3_FFFF),
+        ));
+        calls.push(Call::ReadPair(PD, PD | pins));
+    }
+    chunked(packer, &calls);
+}

@@ -1,0 +1,111 @@
+//! The script itself: calls of all codes mixed, the configuration at the start, and scripts that
+//! are refused whole or from some call on.
+
+use super::{names, pool, trace};
+use crate::coverage::Coverage;
+use crate::random::Random;
+use crate::script::{bytes, Call, Packer, PairNumbers};
+use crate::sheet::{Sheet, SHEET_E};
+use crate::word::{DESL, FN, PD};
+
+/// What this suite must meet.
+pub fn promised() -> Vec<String> {
+    let mut promised = vec![
+        "script refused".to_string(),
+        "script without a line".to_string(),
+    ];
+    let common = [
+        "config 0", "pass", "accepted", "offered", "clock", "access", "words", "counts",
+    ];
+    for (code, answer) in (1..).zip(common) {
+        promised.extend(names(code, &[answer]));
+    }
+    promised.extend(names(9, &["waiting"]));
+    promised
+}
+
+/// All cases of the suite.
+pub fn cases(seed: u64, scale: u32, packer: &mut Packer, coverage: &mut Coverage) {
+    let random = Random::new(seed);
+    packer.raw(&[]);
+    coverage.meet("script without a line");
+    for _ in 0..200 * scale {
+        let mixed = mixed(&random);
+        packer.raw(&bytes(&mixed));
+        let cut = random.below(mixed.len() as u32) as usize;
+        packer.raw(&bytes(&mixed[..cut]));
+        packer.raw(&bytes(&mixed)[..4 * cut + random.between(1, 3) as usize]);
+        let code = random.pick(&[0, 10_000, 257, 0x0100_0000, u32::MAX]);
+        packer.raw(&bytes(&[&mixed[..], &[code, 5, 1]].concat()));
+    }
+    for count in [1, 2, 16_384, u32::MAX] {
+        for code in [3, 8] {
+            packer.raw(&bytes(&[6, PD, PD, code, count]));
+        }
+    }
+    lengths(packer);
+}
+
+/// Scripts as long as allowed, and longer.
+fn lengths(packer: &mut Packer) {
+    let mut longest = vec![3, 16_382];
+    longest.resize(16_384, DESL);
+    packer.raw(&bytes(&longest));
+    let mut counted = longest.clone();
+    counted[0] = 8;
+    packer.raw(&bytes(&counted));
+    longest.push(9);
+    packer.raw(&bytes(&longest));
+    packer.raw(&bytes(&longest)[..65_537]);
+    packer.raw(&[9]);
+    packer.raw(&[9, 0, 0]);
+}
+
+/// Calls of all codes at random, from the configuration that stands at the start.
+fn mixed(random: &Random) -> Vec<u32> {
+    let mut sheet = SHEET_E;
+    let mut script = Vec::new();
+    for _ in 0..60 {
+        let call = some_call(random, &sheet);
+        if let Call::Config(numbers) = call {
+            sheet = Sheet::from_numbers(numbers);
+        }
+        call.encode(&mut script);
+    }
+    script
+}
+
+/// One call of any code; most of its numbers fit the sheet.
+fn some_call(random: &Random, sheet: &Sheet) -> Call {
+    let fit = if sheet.refusal().is_some() {
+        SHEET_E
+    } else {
+        *sheet
+    };
+    let kind = trace::some_kind(random);
+    let operation = pool::operation(random, &fit, kind, random.below(8));
+    let (first, second) = pool::noisy(random, &fit, kind, &operation);
+    let request = pool::request(random, &fit, random.once_in(2), random.below(9)).numbers();
+    match random.below(20) {
+        0 if random.once_in(6) => Call::Config([38, 4, 4, 16, 5000, 2, 3, 1, 7, 18]),
+        0 => pool::config(&pool::sheet(random)),
+        1..=3 => Call::Step {
+            count: random.below(40),
+            word: DESL,
+        },
+        4 => Call::Step {
+            count: random.below(3),
+            word: random.pick(&[first, second, PD | FN]),
+        },
+        5 => Call::Check(vec![DESL; random.below(20) as usize]),
+        6 => Call::Check(vec![DESL, first, second, DESL]),
+        7..=9 => Call::Offer(request),
+        10..=12 => Call::Tick(random.below(150)),
+        13..=14 => Call::ReadPair(first, second),
+        15 => Call::WritePair(PairNumbers::Access(request)),
+        16 => Call::WritePair(PairNumbers::Regular(random.below(3))),
+        17 => Call::WritePair(PairNumbers::Extended(random.below(66))),
+        18 => Call::Count(vec![DESL, first, second, DESL]),
+        _ => Call::Waiting,
+    }
+}

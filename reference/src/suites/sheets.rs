@@ -1,0 +1,85 @@
+//! Sheets for the pairs' suite: each field around its edges, and several unfit at once.
+
+use super::pool;
+use crate::random::Random;
+use crate::script::{Call, Packer, PairNumbers};
+use crate::sheet::{least_period, Sheet, COUNT_RANGES, GREATEST_PERIOD};
+use crate::word::{CS, FN, PD};
+
+const MAX: u32 = u32::MAX;
+
+/// Values of the sheet's field i around its edges on this part, and others that a narrower number
+/// would take for fitting ones.
+fn edge_values(sheet: &Sheet, i: usize) -> Vec<u32> {
+    let fitting: Vec<u32> = match i {
+        0 => vec![37, 50],
+        1 => vec![3, 4, 5],
+        2 => vec![2, 4],
+        3 => vec![8, 16],
+        4 => {
+            let grades = [37, 50].into_iter();
+            let table = grades.flat_map(|g| [3, 4, 5].map(|cl| least_period(g, cl).unwrap()));
+            table.chain([GREATEST_PERIOD]).collect()
+        }
+        _ => {
+            let (low, high) = COUNT_RANGES[i - 5];
+            (low..=high).collect()
+        }
+    };
+    let mut values = vec![0, 1, MAX, MAX - 1, 1 << 31];
+    for value in fitting {
+        let own = sheet.numbers()[i];
+        values.extend([value - 1, value, value + 1, value + 256, value + 65_536]);
+        values.extend([value | 1 << 31, own + (1 << 8), own + (1 << 16)]);
+    }
+    values.sort();
+    values.dedup();
+    values
+}
+
+/// A configuration, and a pair read and written on it, which a refused sheet refuses first.
+fn trial(random: &Random, numbers: [u32; 10]) -> [Call; 3] {
+    let second = random.pick(&[0, MAX, PD, PD | CS, PD | 0x42]);
+    let field = random.pick(&[0, 1, 64, MAX]);
+    let written = match random.below(4) {
+        0 => PairNumbers::Refresh,
+        1 => PairNumbers::Regular(field),
+        2 => PairNumbers::Extended(field),
+        _ => PairNumbers::Access([0, 0, field, 0, 0, 0]),
+    };
+    [
+        Call::Config(numbers),
+        Call::ReadPair(PD | random.pick(&[0, FN, CS]), second),
+        Call::WritePair(written),
+    ]
+}
+
+/// Each field alone at and around each of its edges, on every part.
+pub fn edges(random: &Random, packer: &mut Packer) {
+    for part in pool::parts() {
+        for i in 0..10 {
+            for value in edge_values(&part, i) {
+                let mut numbers = part.numbers();
+                numbers[i] = value;
+                packer.group(&trial(random, numbers));
+            }
+        }
+    }
+    for corner in pool::corners() {
+        packer.group(&trial(random, corner.numbers()));
+    }
+}
+
+/// Every set of unfit fields, so that the order of the refusals shows.
+pub fn faults(random: &Random, packer: &mut Packer, scale: u32) {
+    for _ in 0..4 * scale {
+        for unfit in 0..1024 {
+            let good = pool::sheet(random);
+            let mut numbers = good.numbers();
+            for i in (0..10).filter(|i| unfit >> i & 1 == 1) {
+                numbers[i] = random.pick(&edge_values(&good, i));
+            }
+            packer.group(&trial(random, numbers));
+        }
+    }
+}

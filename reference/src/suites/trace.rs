@@ -1,0 +1,154 @@
+//! Traces that keep close to the rules: a builder that knows the earliest clock of the next pair.
+
+use super::pool;
+use crate::coverage::Coverage;
+use crate::judge::{Broken, History};
+use crate::pair::Kind;
+use crate::past::Past;
+use crate::random::Random;
+use crate::sheet::Sheet;
+use crate::word::DESL;
+
+/// A trace under way and what the rules make of it.
+pub struct Trace {
+    pub sheet: Sheet,
+    pub past: History,
+    pub words: Vec<u32>,
+}
+
+/// The name of a broken part of a rule.
+pub fn part_name(broken: &Broken) -> String {
+    format!("{} {}", broken.number, broken.part)
+}
+
+impl Trace {
+    /// An empty trace.
+    pub fn new(sheet: Sheet) -> Trace {
+        Trace {
+            sheet,
+            past: History::fresh(),
+            words: Vec::new(),
+        }
+    }
+
+    /// The clock of the next word.
+    pub fn clock(&self) -> u32 {
+        self.past.clock
+    }
+
+    /// Adds one word, whatever the rules say.
+    pub fn word(&mut self, word: u32) {
+        self.past.push(word);
+        self.words.push(word);
+    }
+
+    /// Adds DESL words up to a clock.
+    pub fn idle_until(&mut self, clock: u32) {
+        while self.clock() < clock {
+            self.word(DESL);
+        }
+    }
+
+    /// Adds both words of a pair.
+    pub fn pair(&mut self, (first, second): (u32, u32)) {
+        self.word(first);
+        self.word(second);
+    }
+
+    /// What a pair begun now would break, at the first of its words that breaks something.
+    pub fn broken_by(&self, words: (u32, u32)) -> Vec<Broken> {
+        let mut ahead = self.past.clone();
+        let at_first = ahead.broken(&self.sheet, words.0);
+        if !at_first.is_empty() {
+            return at_first;
+        }
+        ahead.push(words.0);
+        ahead.broken(&self.sheet, words.1)
+    }
+
+    /// The earliest clock from now on at which the pair breaks nothing; none if waiting for it
+    /// breaks rule 3 or is in vain.
+    pub fn earliest(&self, words: (u32, u32)) -> Option<u32> {
+        let mut ahead = Trace {
+            sheet: self.sheet,
+            past: self.past.clone(),
+            words: Vec::new(),
+        };
+        let last = self.clock() + self.sheet.d() + 300;
+        while ahead.past.lowest(&self.sheet, DESL).is_none() && ahead.clock() < last {
+            if ahead.broken_by(words).is_empty() {
+                return Some(ahead.clock());
+            }
+            ahead.past.push(DESL);
+        }
+        None
+    }
+
+    /// Puts the pair at its earliest clock, and counts the parts of rules that held it back until
+    /// then. False if it cannot be put.
+    pub fn put(&mut self, words: (u32, u32), coverage: &mut Coverage) -> bool {
+        let Some(clock) = self.earliest(words) else {
+            return false;
+        };
+        if clock > self.clock() {
+            self.idle_until(clock - 1);
+            for broken in self.broken_by(words) {
+                coverage.meet(&format!("kept at its edge: {}", part_name(&broken)));
+            }
+        }
+        self.idle_until(clock);
+        self.pair(words);
+        true
+    }
+
+    /// Words for a pair of the kind, ignored pins at random.
+    pub fn words_of(&self, random: &Random, kind: Kind, bank: u32) -> (u32, u32) {
+        let operation = pool::operation(random, &self.sheet, kind, bank);
+        pool::noisy(random, &self.sheet, kind, &operation)
+    }
+
+    /// Puts a pair of the kind at its earliest clock.
+    pub fn put_kind(&mut self, random: &Random, kind: Kind, coverage: &mut Coverage) -> bool {
+        let bank = random.pick(&[0, 0, 0, 1, 2, 7]);
+        let words = self.words_of(random, kind, bank);
+        self.put(words, coverage)
+    }
+
+    /// The start-up, mostly in the usual order and whole, at the earliest clocks.
+    pub fn start_up(&mut self, random: &Random, coverage: &mut Coverage) {
+        let mut kinds = vec![Kind::Extended, Kind::Regular, Kind::Refresh, Kind::Refresh];
+        if random.once_in(3) {
+            let (i, j) = (random.below(4) as usize, random.below(4) as usize);
+            kinds.swap(i, j);
+        }
+        if random.once_in(8) {
+            let again = random.pick(&kinds);
+            kinds.insert(random.below(5) as usize, again);
+        }
+        if random.once_in(8) {
+            kinds.remove(random.below(4) as usize);
+        }
+        for kind in kinds {
+            if random.once_in(4) {
+                self.idle_until(self.clock() + random.below(20));
+            }
+            self.put_kind(random, kind, coverage);
+        }
+    }
+}
+
+/// A kind at random, reads and writes most often.
+pub fn some_kind(random: &Random) -> Kind {
+    random.pick(&[
+        Kind::Read,
+        Kind::Read,
+        Kind::Read,
+        Kind::Write,
+        Kind::Write,
+        Kind::Write,
+        Kind::Regular,
+        Kind::Extended,
+        Kind::Refresh,
+        Kind::Refresh,
+    ])
+}

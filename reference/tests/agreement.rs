@@ -1,0 +1,139 @@
+//! The implementation against itself: the plain judge and controller against the fast path, pairs
+//! written and read back, and the controller's traces against the judge.
+
+use reference::checker::{Checker, Step};
+use reference::controller::Controller;
+use reference::judge::{judge, History, Verdict};
+use reference::pair::{self, Kind, Operation};
+use reference::past::Past;
+use reference::random::Random;
+use reference::sheet::Sheet;
+use reference::suites::pool;
+use reference::summary::Summary;
+use reference::word::DESL;
+
+const KINDS: [Kind; 5] = [
+    Kind::Read,
+    Kind::Write,
+    Kind::Regular,
+    Kind::Extended,
+    Kind::Refresh,
+];
+
+#[test]
+fn pairs_written_are_read_back_whatever_the_ignored_pins() {
+    let random = Random::new(1);
+    for sheet in pool::parts() {
+        for kind in KINDS {
+            for _ in 0..200 {
+                let operation = pool::operation(&random, &sheet, kind, random.below(8));
+                let (first, second) = pool::noisy(&random, &sheet, kind, &operation);
+                assert_eq!(pair::read(&sheet, first, second), Ok(operation));
+                assert_eq!(pair::kind(first, second), kind);
+            }
+        }
+    }
+}
+
+/// A trace of pairs put where the plain judge allows them, most of them at once.
+fn busy_trace(random: &Random, sheet: &Sheet, pairs: u32) -> Vec<u32> {
+    let mut past = History::fresh();
+    let mut words = Vec::new();
+    for n in 0..pairs {
+        let start_up = [Kind::Extended, Kind::Regular, Kind::Refresh, Kind::Refresh];
+        let kind = *start_up.get(n as usize).unwrap_or(&random.pick(&KINDS));
+        let operation = pool::operation(random, sheet, kind, random.below(8));
+        let pair = pool::noisy(random, sheet, kind, &operation);
+        while !past.admits(sheet, pair) && past.lowest(sheet, DESL).is_none() {
+            past.push(DESL);
+            words.push(DESL);
+        }
+        for word in [pair.0, pair.1] {
+            past.push(word);
+            words.push(word);
+        }
+    }
+    words
+}
+
+#[test]
+fn history_and_summary_judge_alike() {
+    let random = Random::new(2);
+    for _ in 0..150 {
+        let sheet = pool::sheet(&random);
+        let mut words = busy_trace(&random, &sheet, 60);
+        for _ in 0..20 {
+            let plain = judge::<History>(&sheet, &words);
+            assert_eq!(plain, judge::<Summary>(&sheet, &words));
+            let place = random.below(words.len() as u32) as usize;
+            words[place] ^= 1 << random.below(20);
+        }
+    }
+}
+
+#[test]
+fn steps_and_the_whole_check_agree() {
+    let random = Random::new(3);
+    for _ in 0..100 {
+        let sheet = pool::sheet(&random);
+        let words = busy_trace(&random, &sheet, 30);
+        let mut checker = Checker::<History>::fresh(sheet);
+        let mut first = Verdict::Accepted;
+        for &word in &words {
+            match checker.step(word) {
+                Step::Breach { clock, number } => first = Verdict::Breach { clock, number },
+                Step::Refused(number) => assert_eq!(number, 23),
+                Step::Pass => {}
+            }
+        }
+        assert_eq!(first, judge::<History>(&sheet, &words));
+    }
+}
+
+#[test]
+fn plain_and_fast_controllers_agree_and_pass_the_judge() {
+    let random = Random::new(4);
+    for _ in 0..60 {
+        let sheet = pool::sheet(&random);
+        let mut plain = Controller::<History>::fresh(sheet);
+        let mut fast = Controller::<Summary>::fresh(sheet);
+        let mut accepted = Vec::new();
+        let mut words = Vec::new();
+        let rate = random.pick(&[1, 3, 20, 200]);
+        for _ in 0..2_500 {
+            if random.once_in(rate) {
+                let request = pool::request(&random, &sheet, random.once_in(2), random.below(8));
+                let answer = plain.offer(request);
+                assert_eq!(answer, fast.offer(request));
+                if answer.is_ok() {
+                    accepted.push(request);
+                }
+            }
+            let word = plain.tick();
+            assert_eq!(word, fast.tick());
+            words.push(word.unwrap());
+        }
+        assert_eq!(judge::<History>(&sheet, &words), Verdict::Accepted);
+        let mut carried = carried(&sheet, &words);
+        carried.extend(plain.waiting.iter().map(|r| Operation::Access(*r)));
+        let accepted: Vec<Operation> = accepted.into_iter().map(Operation::Access).collect();
+        assert_eq!(carried, accepted);
+    }
+}
+
+/// The reads and writes of a trace's closed pairs.
+fn carried(sheet: &Sheet, words: &[u32]) -> Vec<Operation> {
+    let mut operations = Vec::new();
+    let mut clock = 0;
+    while clock + 1 < words.len() {
+        match pair::read(sheet, words[clock], words[clock + 1]) {
+            Ok(operation) => {
+                operations.push(operation);
+                clock += 2;
+            }
+            Err(_) => clock += 1,
+        }
+    }
+    operations.retain(|o| matches!(o, Operation::Access(_)));
+    operations
+}
