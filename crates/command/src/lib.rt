@@ -1,6 +1,6 @@
 // Commands as pairs of words: read from the pins, and written to them.
 mod operation;
-mod pins;
+pub mod pins;
 mod reading;
 mod writing;
 

@@ -60,7 +60,7 @@ const LEAST_PERIOD: [[u32; 3]; 2] = [[5500, 4500, 3750], [6000, 5500, 5000]];
 const GREATEST_PERIOD: u32 = 8500;
 
 // x where the test holds, and otherwise y.
-fn choose(test: bool, x: u32, y: u32) -> u32
+pub fn choose(test: bool, x: u32, y: u32) -> u32
     ensures { λ r. ⌜ r ≡ cond test x y ⌝ }
 {
     if test { x } else { y }

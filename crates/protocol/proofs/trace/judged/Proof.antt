@@ -1,0 +1,95 @@
+-- The invariant: the verdict on the whole trace is that of a run over what is kept, from the clock on. Assumes nothing.
+use Prim.Native.Nat.{_-_, _≤_}
+use mathlib.Core.Path.{_≡_, _∙_, sym}
+use native.Mathlib.Omega.{arith}
+use borrow.Author.Needs.{needs}
+use lib.ListN.{length, drop}
+use denote.Ref.{now}
+use Rattle.protocol.specs.Verdict.{judge}
+use Rattle.protocol.proofs.Words.{run, run-is, run-passes, run-breaches, run-ends}
+use Rattle.protocol.proofs.trace.judged.Statement.{statement}
+use Rattle.protocol.proofs.trace.judged.Tie as tie
+
+abbrev Inv-loop : tie.InvT-loop
+Inv-loop timing words stamps₀ first₀ clock₀ stamps first clock =
+    (clock ≤ length words) × (judge timing words ≡ run timing stamps clock first (drop clock words))
+
+abbrev μ-loop : tie.MeasureT-loop
+μ-loop timing words stamps₀ first₀ clock₀ stamps first clock = length words - clock
+
+never-requires : tie.Need-never-requires Inv-loop μ-loop
+never-requires c κs = search needs
+
+loop-holds : tie.Need-loop-holds Inv-loop μ-loop
+loop-holds c = (search needs, rw (c .never .ensures) (run-is (c .before .before .args .timing) (now (c .before .before .args .words))))
+
+cast-loop : tie.Need-cast-loop Inv-loop μ-loop
+cast-loop c = search needs
+
+cast-word : tie.Need-cast-word Inv-loop μ-loop
+cast-word c = search needs
+
+mul-word : tie.Need-mul-word Inv-loop μ-loop
+mul-word c = search needs
+
+shared-slice-read-word : tie.Need-shared-slice-read-word Inv-loop μ-loop
+shared-slice-read-word c = search needs
+
+word-breach-requires : tie.Need-word-breach-requires Inv-loop μ-loop
+word-breach-requires c κs = search needs
+
+returns : tie.Need-returns Inv-loop μ-loop
+returns c =
+    let l = c .before .before .before .before .loop in
+    let a = c .before .before .before .before .before .before .before .args in
+    rw
+    (l .inv .1, run-breaches (a .timing) (l .stamps) (l .first) (now (a .words)) (l .clock) (c .before .before .before .loop-test .taken) (λ e. c .if1 .taken (c .before .word-breach .ensures ∙ e)), ← c .before .word-breach .ensures)
+
+after-requires : tie.Need-after-requires Inv-loop μ-loop
+after-requires c κs = search needs
+
+next-first-requires : tie.Need-next-first-requires Inv-loop μ-loop
+next-first-requires c κs = search needs
+
+add-clock : tie.Need-add-clock Inv-loop μ-loop
+add-clock c = search needs
+
+loop-less : tie.Need-loop-less Inv-loop μ-loop
+loop-less c = search needs
+
+loop-again : tie.Need-loop-again Inv-loop μ-loop
+loop-again c =
+    let l = c .before .before .before .before .before .before .loop in
+    let a = c .before .before .before .before .before .before .before .before .before .args in (
+      search needs,
+      rw (c .before .after .ensures, c .next-first .ensures, l .inv .1)
+          (run-passes (a .timing) (l .stamps) (l .first) (now (a .words)) (l .clock) (c .before .before .before .before .before .loop-test .taken)
+          (sym (c .before .before .before .word-breach .ensures) ∙ c .before .before .if1 .left)),
+    )
+
+returns-2 : tie.Need-returns-2 Inv-loop μ-loop
+returns-2 c =
+    let l = c .before .loop in
+    let a = c .before .before .before .before .args in
+    rw (l .inv .1, run-ends (a .timing) (l .stamps) (l .first) (now (a .words)) (l .clock) (c .loop-test .left))
+
+pub judged-spec : {M : Type 1} → statement M
+judged-spec =
+    tie.close
+    (tie.spec
+    Inv-loop
+    μ-loop
+    never-requires
+    loop-holds
+    cast-loop
+    cast-word
+    mul-word
+    shared-slice-read-word
+    word-breach-requires
+    returns
+    after-requires
+    next-first-requires
+    add-clock
+    loop-less
+    loop-again
+    returns-2)

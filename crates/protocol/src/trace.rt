@@ -1,0 +1,54 @@
+// The whole check of a trace: one pass, and nothing tested inside it that the door has tested.
+use crate::checker::Breach;
+use crate::checker::LIMIT;
+use crate::checker::Verdict;
+use crate::rules::word_breach;
+use crate::stamps::DESL;
+use crate::stamps::Timestamps;
+use crate::stamps::next_first;
+use config::Config;
+use config::Refusal;
+use config::Timing;
+use config::TimingAnswer;
+ghost use mathlib.Core.Path.{_≡_};
+ghost use Prim.Native.Nat.{_≤_};
+ghost use lib.ListN.{length};
+ghost use Rattle.config.specs.Outcome.{value};
+ghost use Rattle.protocol.specs.Verdict.{judge, checkOf};
+ghost use Rattle.protocol.specs.Steps.{verdictOutcome};
+
+fn judged(timing: Timing, words: &[u32]) -> Verdict
+    requires { ⌜ length (now words) ≤ 16777216 ⌝ }
+    ensures { λ r. ⌜ verdictOutcome r ≡ value (judge timing (now (words .entry))) ⌝ }
+{
+    let mut stamps = Timestamps::never();
+    let mut first = DESL;
+    let mut clock: u32 = 0;
+    while (clock as usize) < words.len() {
+        let word = words[clock as usize];
+        let number = word_breach(timing, stamps, clock, first, word);
+        if number != 0 {
+            return Verdict::InBreach(Breach { clock, number });
+        }
+        stamps = stamps.after(clock, first, word);
+        first = next_first(first, word);
+        clock += 1;
+    }
+    Verdict::Accepted
+}
+
+// The verdict on a trace: the configuration's refusals, then 24 for more than 16,777,216 words.
+pub fn check(config: Config, words: &[u32]) -> Verdict
+    ensures { λ r. ⌜ verdictOutcome r ≡ checkOf config (now (words .entry)) ⌝ }
+{
+    match config.timing() {
+        TimingAnswer::Refused(why) => Verdict::Refused(why),
+        TimingAnswer::Accepted(timing) => {
+            if words.len() <= LIMIT as usize {
+                judged(timing, words)
+            } else {
+                Verdict::Refused(Refusal::ClockLimit)
+            }
+        }
+    }
+}
