@@ -4,3 +4,5 @@ pub mod Newest
 pub mod Summary
 pub mod Tests
 pub mod Words
+pub mod Kept
+pub mod Refinement

@@ -6,3 +6,4 @@ pub mod Verdict
 pub mod Cases
 pub mod Stamps
 pub mod Steps
+pub mod Refinement

@@ -17,3 +17,4 @@ pub use stamps::DESL;
 pub use stamps::Timestamps;
 pub use stamps::next_first;
 pub use trace::check;
+pub use trace::check_bytes;

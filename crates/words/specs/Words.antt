@@ -1,16 +1,24 @@
 -- Words in bytes, the lowest byte first.
 use Prim.Native.Nat.{ℕ, _+_, _*_, _/_}
 use mathlib.Core.Bool.{cond}
-use mathlib.Core.List.{List}
+use mathlib.Core.List.{List, [], _∷_}
 use lib.ListN.{length, getD}
 use lib.Dec.{ltb}
+
+abbrev pub wordBy : ℕ → ℕ → ℕ → ℕ → ℕ
+wordBy a b c d = a + b * 256 + c * 65536 + d * 16777216
+
+-- the words of four bytes each; fewer than four at the end are no word
+abbrev pub wordsOf : List ℕ → List ℕ
+wordsOf [] = []
+wordsOf (a ∷ []) = []
+wordsOf (a ∷ b ∷ []) = []
+wordsOf (a ∷ b ∷ c ∷ []) = []
+wordsOf (a ∷ b ∷ c ∷ d ∷ rest) = wordBy a b c d ∷ wordsOf rest
 
 -- the word at an index, counted in words; 0 past the last whole word
 abbrev pub wordAt : List ℕ → ℕ → ℕ
 wordAt bytes i =
     cond (ltb i (length bytes / 4))
-    (getD bytes (4 * i) 0
-    + getD bytes (4 * i + 1) 0 * 256
-    + getD bytes (4 * i + 2) 0 * 65536
-    + getD bytes (4 * i + 3) 0 * 16777216)
+    (wordBy (getD bytes (4 * i) 0) (getD bytes (4 * i + 1) 0) (getD bytes (4 * i + 2) 0) (getD bytes (4 * i + 3) 0))
     0

@@ -1,0 +1,151 @@
+-- The theorem of specs/Refinement: every state on the way keeps the summary of a past that words have led to. Assumes nothing.
+use Prim.Native.Nat.{ℕ, zero, suc, _+_, _≤_, _<_}
+use mathlib.Core.Path.{_≡_, refl, sym, _∙_, ap, subst}
+use mathlib.Core.Bool.{Bool, true, false, cond, true≢false}
+use mathlib.Core.List.{List, [], _∷_}
+use mathlib.Core.Option.{Option, none, some}
+use native.Mathlib.Omega.{arith}
+use borrow.Author.Tests.{lt-ltb, eq-eqb, ne-eqb, ltb-true}
+use lib.ListN.{length}
+use lib.Dec.{eqb, ltb}
+use Rattle.config.specs.Outcome.{Outcome, value, refused, require}
+use Rattle.config.specs.Sheet.{partFits, periodFits, countsFit, derived, timingOf}
+use Rattle.config.specs.declared.Config.{Config}
+use Rattle.config.specs.declared.Timing.{Timing}
+use Rattle.config.proofs.Outcomes.{refused-value}
+use Rattle.protocol.specs.History.{ClosedPair, Past, extendBy}
+use Rattle.protocol.specs.Verdict.{Judgement, accepted, breach, judge}
+use Rattle.protocol.specs.Stamps.{wordBreach, nextStamps, nextFirst}
+use Rattle.protocol.specs.Steps.{Step, fresh, clockFits, judged, stepBy, stepOf}
+use Rattle.protocol.specs.Refinement.{follow, stepping, afterAll, Refinement}
+use Rattle.protocol.specs.declared.stamps.Timestamps.{Timestamps}
+use Rattle.protocol.specs.declared.checker.Checker.{Checker}
+use Rattle.protocol.proofs.Summary.{summary}
+use Rattle.protocol.proofs.Words.{firstOf, Regular, regular-extend, stamps-is, first-is, clock-is, run, run-is}
+use Rattle.protocol.proofs.Kept.{fits}
+
+-- a state with no breach recorded
+abbrev at : Config → Timestamps → ℕ → ℕ → Checker
+at c s k first = record { config = c; clock = k; first = first; stamps = s; breach = record { clock = 0; number = 0 } }
+
+module _ (c : Config) (t : Timing) (e : timingOf c ≡ value t) where
+  module _ (s : Timestamps) (k first w : ℕ) (f : clockFits k first s ≡ true) (h : k < 16777216) where
+    step-passes : wordBreach t s k first w ≡ 0
+        → stepOf (at c s k first) w ≡ record { outcome = value accepted; after = at c (nextStamps s k first w) (k + 1) (nextFirst first w) }
+    step-passes z = rw (e, f, lt-ltb k 16777216 h, eq-eqb (wordBreach t s k first w) 0 z)
+
+    step-breaches : (n : ℕ) → wordBreach t s k first w ≡ suc n → stepOf (at c s k first) w .outcome ≡ value (breach k (suc n))
+    step-breaches n z = rw (e, f, lt-ltb k 16777216 h, z, ne-eqb (suc n) 0 (λ q. omega arith))
+
+  stepping-is : (o : Option ℕ) (k : ℕ) (ps : List ClosedPair) (ws : List ℕ) → Regular o k ps → k + length ws ≤ 16777216
+      → stepping (at c (summary ps) k (firstOf o)) ws ≡ value (run t (summary ps) k (firstOf o) ws)
+  stepping-is o k ps [] r h = refl
+  stepping-is o k ps (w ∷ ws) r h =
+      let p : Past = record { clock = k; opened = o; pairs = ps } in
+      let q = extendBy o p w in
+      let one = clock-is o p w in
+      let ih = stepping-is (q .opened) (q .clock) (q .pairs) ws (regular-extend o p w r) (omega arith) in
+      go (wordBreach t (summary ps) k (firstOf o) w) refl (rw (stamps-is o p w r, one, first-is o p w r) at ih)
+    where
+      f : clockFits k (firstOf o) (summary ps) ≡ true
+      f = fits o k ps r (omega arith)
+
+      go : (n : ℕ) → wordBreach t (summary ps) k (firstOf o) w ≡ n
+          → stepping (at c (nextStamps (summary ps) k (firstOf o) w) (k + 1) (nextFirst (firstOf o) w)) ws
+          ≡ value (run t (nextStamps (summary ps) k (firstOf o) w) (k + 1) (nextFirst (firstOf o) w) ws)
+          → stepping (at c (summary ps) k (firstOf o)) (w ∷ ws) ≡ value (run t (summary ps) k (firstOf o) (w ∷ ws))
+      go zero z ih = rw (step-passes (summary ps) k (firstOf o) w f (omega arith) z, z) ih
+      go (suc n) z ih = rw (step-breaches (summary ps) k (firstOf o) w f (omega arith) n z, z)
+
+verdict : (c : Config) (t : Timing) (ws : List ℕ) → timingOf c ≡ value t → length ws ≤ 16777216 → stepping (fresh c) ws ≡ value (judge t ws)
+verdict c t ws e h = stepping-is c t e none 0 [] ws tt (omega arith) ∙ ap value (sym (run-is t ws))
+
+-- a clock, first word and timestamps that are those of such a past
+record Kept (k f : ℕ) (s : Timestamps) : Type 0 where
+  opened : Option ℕ
+  pairs : List ClosedPair
+  regular : Regular opened k pairs
+  limit : k ≤ 16777216
+  first : f ≡ firstOf opened
+  stamps : s ≡ summary pairs
+
+kept-next : (k f : ℕ) (s : Timestamps) (w : ℕ) → Kept k f s → k < 16777216 → Kept (k + 1) (nextFirst f w) (nextStamps s k f w)
+kept-next k f s w h l =
+    let p : Past = record { clock = k; opened = h .opened; pairs = h .pairs } in
+    let q = extendBy (h .opened) p w in
+    record {
+      opened = q .opened;
+      pairs = q .pairs;
+      regular = subst (λ n. Regular (q .opened) n (q .pairs)) (clock-is (h .opened) p w) (regular-extend (h .opened) p w (h .regular));
+      limit = omega arith;
+      first = rw (h .first) (sym (first-is (h .opened) p w (h .regular)));
+      stamps = rw (h .first, h .stamps) (sym (stamps-is (h .opened) p w (h .regular)));
+    }
+
+kept-fits : (k f : ℕ) (s : Timestamps) → Kept k f s → clockFits k f s ≡ true
+kept-fits k f s h = rw (h .first, h .stamps) (fits (h .opened) k (h .pairs) (h .regular) (h .limit))
+
+abbrev KeptBy : Checker → Type 0
+KeptBy c = Kept (c .clock) (c .first) (c .stamps)
+
+cond-case : {A : Type 0} (P : A → Type 0) (b : Bool) (x y : A) → (b ≡ true → P x) → (b ≡ false → P y) → P (cond b x y)
+cond-case P true x y f g = f refl
+cond-case P false x y f g = g refl
+
+-- every step keeps it, whatever it answers
+kept-step : (o : Outcome Timing) (c : Checker) (w : ℕ) → KeptBy c → KeptBy (stepBy o c w .after)
+kept-step (refused n) c w h = h
+kept-step (value t) c w h =
+    cond-case P (clockFits (c .clock) (c .first) (c .stamps)) _ _
+    (λ _. cond-case P (eqb (c .breach .number) 0) _ _
+    (λ _. cond-case P (ltb (c .clock) 16777216) _ _
+    (λ l. cond-case P (eqb (wordBreach t (c .stamps) (c .clock) (c .first) w) 0) _ _
+    (λ _. kept-next (c .clock) (c .first) (c .stamps) w h (ltb-true (c .clock) 16777216 l))
+    (λ _. h))
+    (λ _. h))
+    (λ _. h))
+    (λ _. h)
+  where
+    P : Step → Type 0
+    P r = KeptBy (r .after)
+
+kept-all : (c : Checker) (ws : List ℕ) → KeptBy c → KeptBy (afterAll c ws)
+kept-all c [] h = h
+kept-all c (w ∷ ws) h = kept-all (stepOf c w .after) ws (kept-step (timingOf (c .config)) c w h)
+
+same-number : {A : Type 0} {m n : ℕ} → _≡_ {A = Outcome A} (refused m) (refused n) → m ≡ n
+same-number e = cc
+
+refused-by : {A : Type 0} {m : ℕ} → (m ≡ 19 → ⊥) → _≡_ {A = Outcome A} (refused m) (refused 19) → ⊥
+refused-by h e = h (same-number e)
+
+-- no outcome but a state that does not fit is a refusal by 19
+config-19 : (a b d : Bool) (t : Timing) → require a 20 (require b 21 (require d 22 (value t))) ≡ refused 19 → ⊥
+config-19 true true true t e = refused-value (sym e)
+config-19 true true false t e = refused-by (λ q. omega arith) e
+config-19 true false d t e = refused-by (λ q. omega arith) e
+config-19 false b d t e = refused-by (λ q. omega arith) e
+
+not-19 : (o : Outcome Timing) (c : Checker) (w : ℕ) → (o ≡ refused 19 → ⊥) → KeptBy c → stepBy o c w .outcome ≡ refused 19 → ⊥
+not-19 (refused m) c w n h = λ e. n (ap refused (same-number e))
+not-19 (value t) c w n h =
+    cond-case P (clockFits (c .clock) (c .first) (c .stamps)) _ _
+    (λ _. cond-case P (eqb (c .breach .number) 0) _ _
+    (λ _. cond-case P (ltb (c .clock) 16777216) _ _
+    (λ l. cond-case P (eqb (wordBreach t (c .stamps) (c .clock) (c .first) w) 0) _ _ (λ _ e. refused-value (sym e)) (λ _ e. refused-value (sym e)))
+    (λ _. refused-by (λ q. omega arith)))
+    (λ _. refused-by (λ q. omega arith)))
+    (λ z. absurd (true≢false (sym (kept-fits (c .clock) (c .first) (c .stamps) h) ∙ z)))
+  where
+    P : Step → Type 0
+    P r = r .outcome ≡ refused 19 → ⊥
+
+never-19 : (c : Config) (ws : List ℕ) (w : ℕ) → stepOf (afterAll (fresh c) ws) w .outcome ≡ refused 19 → ⊥
+never-19 c ws w =
+    let s = afterAll (fresh c) ws in
+    let a = s .config in
+    not-19 (timingOf a) s w (config-19 (partFits a) (periodFits a) (countsFit a) (derived a))
+    (kept-all (fresh c) ws (record { opened = none; pairs = []; regular = tt; limit = omega arith; first = refl; stamps = refl }))
+
+pub refinement : Refinement
+refinement = record { verdict = verdict; never-19 = never-19 }

@@ -1,0 +1,33 @@
+-- Stepping word by word from a fresh checker, and the published verdict.
+use Prim.Native.Nat.{ℕ, _≤_}
+use mathlib.Core.Path.{_≡_}
+use mathlib.Core.List.{List, [], _∷_}
+use lib.ListN.{length}
+use Rattle.config.specs.Outcome.{Outcome, value, refused}
+use Rattle.config.specs.Sheet.{timingOf}
+use Rattle.config.specs.declared.Config.{Config}
+use Rattle.config.specs.declared.Timing.{Timing}
+use Rattle.protocol.specs.Verdict.{Judgement, accepted, breach, judge}
+use Rattle.protocol.specs.Steps.{fresh, stepOf}
+use Rattle.protocol.specs.declared.checker.Checker.{Checker}
+
+-- the first answer that is no pass, or accepted
+abbrev pub follow : Outcome Judgement → Outcome Judgement → Outcome Judgement
+follow (value accepted) rest = rest
+follow (value (breach k n)) rest = value (breach k n)
+follow (refused n) rest = refused n
+
+abbrev pub stepping : Checker → List ℕ → Outcome Judgement
+stepping s [] = value accepted
+stepping s (w ∷ ws) = let rest = stepping (stepOf s w .after) ws in follow (stepOf s w .outcome) rest
+
+-- the state after the words, whatever each step answered
+abbrev pub afterAll : Checker → List ℕ → Checker
+afterAll s [] = s
+afterAll s (w ∷ ws) = afterAll (stepOf s w .after) ws
+
+pub record Refinement : Type 0 where
+  -- for every accepted configuration and every trace that the whole check takes, stepping gives the published verdict
+  pub verdict : (c : Config) (t : Timing) (ws : List ℕ) → timingOf c ≡ value t → length ws ≤ 16777216 → stepping (fresh c) ws ≡ value (judge t ws)
+  -- "No state that calls make from a fresh one refuses 19."
+  pub never-19 : (c : Config) (ws : List ℕ) (w : ℕ) → stepOf (afterAll (fresh c) ws) w .outcome ≡ refused 19 → ⊥
