@@ -1,0 +1,62 @@
+-- "The tally counts the closed pairs of each of the four kinds and the DESL words, at most 65,536 words, read by the word rules above
+-- without judging."
+use Prim.Native.Nat.{ℕ, _+_}
+use mathlib.Core.Bool.{Bool, cond, not}
+use mathlib.Core.List.{List, [], _∷_}
+use mathlib.Core.Option.{Option, none, some}
+use lib.ListN.{length}
+use lib.Dec.{leb}
+use Rattle.config.specs.Numbers.{refusalNumber}
+use Rattle.command.specs.Pins.{level}
+use Rattle.command.specs.Reading.{opens}
+use Rattle.protocol.specs.History.{ClosedPair, Past, nothing, extend}
+use Rattle.protocol.specs.Rules.{wasRead, wasWrite, wasMode, wasRefresh}
+use Rattle.counts.specs.declared.CommandCounts.{CommandCounts}
+use Rattle.counts.specs.declared.CountsAnswer.{CountsAnswer}
+use Rattle.counts.specs.declared.CountsAnswer.the-variants.{Counted, Refused}
+
+-- the past that words lead to
+abbrev pub pastFrom : Past → List ℕ → Past
+pastFrom p [] = p
+pastFrom p (w ∷ ws) = pastFrom (extend p w) ws
+
+-- how many closed pairs have a property
+abbrev pub count : (ClosedPair → Bool) → List ClosedPair → ℕ
+count f [] = 0
+count f (p ∷ ps) = level (f p) + count f ps
+
+-- "CS high with no pair open is DESL."
+abbrev pub deslAt : Option ℕ → ℕ → ℕ
+deslAt none w = level (not (opens w))
+deslAt (some first) w = 0
+
+abbrev pub deslsFrom : Past → List ℕ → ℕ
+deslsFrom p [] = 0
+deslsFrom p (w ∷ ws) = deslAt (p .opened) w + deslsFrom (extend p w) ws
+
+abbrev pub countsOf : List ℕ → CommandCounts
+countsOf words =
+    let pairs = pastFrom nothing words .pairs in
+    record {
+      reads = count wasRead pairs;
+      writes = count wasWrite pairs;
+      modes = count wasMode pairs;
+      refreshes = count wasRefresh pairs;
+      desls = deslsFrom nothing words;
+    }
+
+abbrev pub zero : CommandCounts
+zero = record { reads = 0; writes = 0; modes = 0; refreshes = 0; desls = 0 }
+
+-- an answer in the paper's terms: 0 or the refusal's number, and the counts
+pub record Tally : Type 0 where
+  pub number : ℕ
+  pub counts : CommandCounts
+
+abbrev pub tallyOutcome : CountsAnswer → Tally
+tallyOutcome (Counted c) = record { number = 0; counts = c }
+tallyOutcome (Refused r c) = record { number = refusalNumber r; counts = c }
+
+-- "Tally: 30 too long, all counts 0."
+abbrev pub tallyOf : List ℕ → Tally
+tallyOf words = cond (leb (length words) 65536) (record { number = 0; counts = countsOf words }) (record { number = 30; counts = zero })

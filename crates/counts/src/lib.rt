@@ -1,0 +1,79 @@
+// How often each command stands in a trace (the paper's tally). It judges nothing.
+use command::pins::CS;
+use command::pins::FN;
+use command::pins::bit;
+use config::Refusal;
+use protocol::DESL;
+use protocol::next_first;
+ghost use mathlib.Core.Path.{_≡_};
+ghost use Prim.Native.Nat.{_+_, _≤_, _<_};
+ghost use lib.ListN.{length};
+ghost use Rattle.counts.specs.Counts.{countsOf, tallyOutcome, tallyOf};
+ghost use Rattle.counts.specs.Turn.{counted, Below};
+
+// Closed pairs of each of the four kinds, and DESL words.
+pub struct CommandCounts {
+    pub reads: u32,
+    pub writes: u32,
+    pub modes: u32,
+    pub refreshes: u32,
+    pub desls: u32,
+}
+
+// The counts; of a refused call all are 0.
+pub enum CountsAnswer {
+    Counted(CommandCounts),
+    Refused(Refusal, CommandCounts),
+}
+
+const ZERO: CommandCounts = CommandCounts {
+    reads: 0,
+    writes: 0,
+    modes: 0,
+    refreshes: 0,
+    desls: 0,
+};
+
+// What one word adds. `words` bounds the counts so far.
+fn counted(counts: CommandCounts, words: usize, first: u32, word: u32) -> CommandCounts
+    requires { ⌜ (words < 65536) × Below words counts ⌝ }
+    ensures { λ r. ⌜ (r ≡ counted counts first word) × Below (words + 1) r ⌝ }
+{
+    let opened = !(first / CS % 2 == 1);
+    let rda = first / FN % 2 == 1;
+    let lal = word / CS % 2 == 1;
+    CommandCounts {
+        reads: counts.reads + bit(opened & (rda & lal)),
+        writes: counts.writes + bit(opened & (!rda & lal)),
+        modes: counts.modes + bit(opened & (rda & !lal)),
+        refreshes: counts.refreshes + bit(opened & (!rda & !lal)),
+        desls: counts.desls + bit((first / CS % 2 == 1) & lal),
+    }
+}
+
+fn counts_of(words: &[u32]) -> CommandCounts
+    requires { ⌜ length (now words) ≤ 65536 ⌝ }
+    ensures { λ r. ⌜ r ≡ countsOf (now (words .entry)) ⌝ }
+{
+    let mut counts = ZERO;
+    let mut first = DESL;
+    let mut i = 0;
+    while i < words.len() {
+        let word = words[i];
+        counts = counted(counts, i, first, word);
+        first = next_first(first, word);
+        i += 1;
+    }
+    counts
+}
+
+// Counts the commands of at most 65,536 words; more refuse 30.
+pub fn count_commands(words: &[u32]) -> CountsAnswer
+    ensures { λ r. ⌜ tallyOutcome r ≡ tallyOf (now (words .entry)) ⌝ }
+{
+    if words.len() <= 65536 {
+        CountsAnswer::Counted(counts_of(words))
+    } else {
+        CountsAnswer::Refused(Refusal::TooLong, ZERO)
+    }
+}

@@ -1,0 +1,54 @@
+// The exam site's call, for programs in C: include/fcram.h declares it.
+use config::Clocks;
+use config::Config;
+use config::Picoseconds;
+use protocol::Verdict;
+ghost use mathlib.Core.Path.{_≡_};
+ghost use Prim.Native.Nat.{_≤_};
+ghost use Rattle.protocol.specs.Verdict.{checkBytesOf};
+ghost use Rattle.protocol.specs.Steps.{verdictOutcome};
+ghost use Rattle.fcram.specs.Number.{Small, numberOf, sheet};
+
+// A verdict as one number: 0 for accepted, the refusal's number, or the clock times 64 plus the breach number.
+fn number(verdict: Verdict) -> u32
+    requires { ⌜ Small (verdictOutcome verdict) ⌝ }
+    ensures { λ r. ⌜ r ≡ numberOf (verdictOutcome verdict) ⌝ }
+{
+    match verdict {
+        Verdict::Accepted => 0,
+        Verdict::InBreach(breach) => breach.clock * 64 + breach.number,
+        Verdict::Refused(why) => why.number(),
+    }
+}
+
+// Checks a trace of little-endian words on the sheet that the ten numbers make.
+#[no_mangle]
+pub extern "C" fn fcram_check(
+    grade: u32,
+    cl: u32,
+    bl: u32,
+    organisation: u32,
+    period: u32,
+    rbd: u32,
+    rwd: u32,
+    wrd: u32,
+    rsc: u32,
+    refc: u32,
+    trace: &[u8],
+) -> u32
+    ensures { λ r. ⌜ r ≡ numberOf (checkBytesOf (sheet grade cl bl organisation period rbd rwd wrd rsc refc) (now (trace .entry))) ⌝ }
+{
+    let config = Config {
+        grade,
+        cl,
+        bl,
+        organisation,
+        period: Picoseconds(period),
+        rbd: Clocks(rbd),
+        rwd: Clocks(rwd),
+        wrd: Clocks(wrd),
+        rsc: Clocks(rsc),
+        refc: Clocks(refc),
+    };
+    number(protocol::check_bytes(config, trace))
+}
