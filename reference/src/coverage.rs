@@ -45,4 +45,16 @@ impl Coverage {
         let unmet = promised.iter().filter(|name| !self.met.contains_key(*name));
         unmet.cloned().collect()
     }
+
+    /// Prints what was met and what of the promised never was; true if all of it was met.
+    pub fn report(&self, promised: &[String]) -> bool {
+        for (name, times) in &self.met {
+            println!("  {name}: {times}");
+        }
+        let missing = self.missing(promised);
+        for name in &missing {
+            println!("  NEVER MET: {name}");
+        }
+        missing.is_empty()
+    }
 }

@@ -2,17 +2,14 @@
 
 use reference::coverage::Coverage;
 use reference::expected::{answers, Answers};
+use reference::program::{run, Feed};
 use reference::script::{bytes, Call, Packer};
 use reference::suites::{Suite, SUITES};
-use std::io::{Read, Write};
 use std::path::PathBuf;
-use std::process::{exit, Command, Stdio};
-use std::sync::mpsc;
-use std::time::{Duration, Instant};
+use std::process::exit;
+use std::time::Instant;
 
 const USAGE: &str = "compare --replay PATH|self [--scale N] [SUITE...]";
-/// How long one script may take.
-const PATIENCE: Duration = Duration::from_secs(300);
 
 /// The program under comparison: a file, or none to play the scripts on this implementation.
 struct Program(Option<PathBuf>);
@@ -23,32 +20,8 @@ impl Program {
         let Some(path) = &self.0 else {
             return Ok(answers(script).text);
         };
-        let mut child = Command::new(path)
-            .stdin(Stdio::piped())
-            .stdout(Stdio::piped())
-            .spawn()
-            .map_err(|e| format!("{}: {e}", path.display()))?;
-        let mut input = child.stdin.take().unwrap();
-        let mut output = child.stdout.take().unwrap();
-        let script = script.to_vec();
-        // A program may stop reading at a call that it refuses, so a failed write is no fault.
-        std::thread::spawn(move || input.write_all(&script));
-        let (done, finished) = mpsc::channel();
-        std::thread::spawn(move || {
-            let mut text = Vec::new();
-            let read = output.read_to_end(&mut text);
-            done.send(read.map(|_| text))
-        });
-        let Ok(text) = finished.recv_timeout(PATIENCE) else {
-            let _ = child.kill();
-            return Err(format!("no end after {} s", PATIENCE.as_secs()));
-        };
-        let text = text.map_err(|e| e.to_string())?;
-        let status = child.wait().map_err(|e| e.to_string())?;
-        if status.code().is_none() {
-            return Err(format!("ended by a signal: {status}"));
-        }
-        String::from_utf8(text).map_err(|e| e.to_string())
+        let output = run(path, script, Feed::Pipe)?;
+        String::from_utf8(output.bytes).map_err(|e| e.to_string())
     }
 }
 
@@ -152,7 +125,7 @@ fn fail(script: &[u8], wanted: &Answers, call: usize, fault: &str) -> ! {
 }
 
 /// Runs one suite and tells whether it met all that it promised.
-fn run(program: &Program, suite: &Suite, scale: u32) -> bool {
+fn run_suite(program: &Program, suite: &Suite, scale: u32) -> bool {
     let start = Instant::now();
     let mut tally = Tally::default();
     let mut own = Coverage::default();
@@ -170,14 +143,7 @@ fn run(program: &Program, suite: &Suite, scale: u32) -> bool {
         tally.lines,
         start.elapsed().as_secs_f64()
     );
-    for (name, times) in &tally.coverage.met {
-        println!("  {name}: {times}");
-    }
-    let missing = tally.coverage.missing(&(suite.promised)());
-    for name in &missing {
-        println!("  NEVER MET: {name}");
-    }
-    missing.is_empty()
+    tally.coverage.report(&(suite.promised)())
 }
 
 fn main() {
@@ -202,7 +168,7 @@ fn main() {
     let wanted = |suite: &&Suite| chosen.is_empty() || chosen.iter().any(|n| n == suite.name);
     let mut sound = true;
     for suite in SUITES.iter().filter(wanted) {
-        sound &= run(&program, suite, scale);
+        sound &= run_suite(&program, suite, scale);
     }
     println!(
         "{}",

@@ -8,15 +8,13 @@ use crate::pair::Kind;
 use crate::past::Past;
 use crate::random::Random;
 use crate::script::{Call, Packer};
-use crate::sheet::SHEET_E;
+use crate::sheet::{Sheet, SHEET_E};
 use crate::summary::Summary;
 use crate::word::{DESL, FN, PD};
 
-/// A trace of thousands of pairs, each as soon as allowed, that fills a script.
-pub fn dense(random: &Random, packer: &mut Packer) {
-    let mut sheet = pool::sheet(random);
-    (sheet.rbd, sheet.rwd, sheet.wrd) = (2, random.between(1, 3), 1);
-    let mut start = Trace::new(sheet);
+/// A trace of accesses at random banks, each as soon as allowed, with the refreshes that are due.
+pub fn dense_words(random: &Random, sheet: &Sheet, length: usize) -> Vec<u32> {
+    let mut start = Trace::new(*sheet);
     for kind in [Kind::Extended, Kind::Regular, Kind::Refresh, Kind::Refresh] {
         start.put_kind(random, kind, &mut Coverage::default());
     }
@@ -24,16 +22,16 @@ pub fn dense(random: &Random, packer: &mut Packer) {
     let mut words = start.words;
     let mut past = Summary::fresh();
     words.iter().for_each(|&word| past.push(word));
-    while words.len() < 8_000 {
+    while words.len() < length {
         let due = past.last_ref().unwrap() + sheet.d() - 20;
         let kind = match past.clock() > due {
             true => Kind::Refresh,
             false => random.pick(&[Kind::Read, Kind::Write]),
         };
         let bank = random.below(8);
-        let operation = pool::operation(random, &sheet, kind, bank);
-        let pair = pool::noisy(random, &sheet, kind, &operation);
-        while !past.admits(&sheet, pair) {
+        let operation = pool::operation(random, sheet, kind, bank);
+        let pair = pool::noisy(random, sheet, kind, &operation);
+        while !past.admits(sheet, pair) {
             past.push(DESL);
             words.push(DESL);
         }
@@ -42,6 +40,20 @@ pub fn dense(random: &Random, packer: &mut Packer) {
             words.push(word);
         }
     }
+    words
+}
+
+/// A sheet on which accesses can follow each other closely.
+pub fn quick_sheet(random: &Random) -> Sheet {
+    let mut sheet = pool::sheet(random);
+    (sheet.rbd, sheet.rwd, sheet.wrd) = (2, random.between(1, 3), 1);
+    sheet
+}
+
+/// A trace of thousands of pairs that fills a script, and one spoilt near its end.
+pub fn dense(random: &Random, packer: &mut Packer) {
+    let sheet = quick_sheet(random);
+    let mut words = dense_words(random, &sheet, 8_000);
     let whole = [Call::Check(words.clone()), Call::Count(words.clone())];
     packer.group(&[pool::config(&sheet), whole[0].clone()]);
     packer.group(&[pool::config(&sheet), whole[1].clone()]);

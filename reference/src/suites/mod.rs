@@ -3,12 +3,14 @@
 pub mod checker;
 pub mod controller;
 mod ending;
-mod long;
+pub mod long;
+pub mod marks;
+pub mod near;
 pub mod pairs;
 pub mod pool;
 pub mod scripts;
-mod sheets;
-mod trace;
+pub mod sheets;
+pub mod trace;
 
 use crate::coverage::Coverage;
 use crate::promises;

@@ -36,8 +36,7 @@ pub fn promised() -> Vec<String> {
 /// All cases of the suite.
 pub fn cases(seed: u64, scale: u32, packer: &mut Packer, _coverage: &mut Coverage) {
     let random = Random::new(seed);
-    sheets::edges(&random, packer);
-    sheets::faults(&random, packer, scale);
+    sheets::trials(&random, packer, scale);
     for sheet in pool::parts() {
         written(&random, packer, &sheet);
         damaged(&random, packer, &sheet, scale);

@@ -54,32 +54,39 @@ fn trial(random: &Random, numbers: [u32; 10]) -> [Call; 3] {
     ]
 }
 
-/// Each field alone at and around each of its edges, on every part.
-pub fn edges(random: &Random, packer: &mut Packer) {
+/// Each field alone at and around each of its edges, on every part; then every corner.
+pub fn each_edge(visit: &mut dyn FnMut([u32; 10])) {
     for part in pool::parts() {
         for i in 0..10 {
             for value in edge_values(&part, i) {
                 let mut numbers = part.numbers();
                 numbers[i] = value;
-                packer.group(&trial(random, numbers));
+                visit(numbers);
             }
         }
     }
     for corner in pool::corners() {
-        packer.group(&trial(random, corner.numbers()));
+        visit(corner.numbers());
     }
 }
 
 /// Every set of unfit fields, so that the order of the refusals shows.
-pub fn faults(random: &Random, packer: &mut Packer, scale: u32) {
-    for _ in 0..4 * scale {
+pub fn each_fault(random: &Random, rounds: u32, visit: &mut dyn FnMut([u32; 10])) {
+    for _ in 0..rounds {
         for unfit in 0..1024 {
             let good = pool::sheet(random);
             let mut numbers = good.numbers();
             for i in (0..10).filter(|i| unfit >> i & 1 == 1) {
                 numbers[i] = random.pick(&edge_values(&good, i));
             }
-            packer.group(&trial(random, numbers));
+            visit(numbers);
         }
     }
+}
+
+/// Both of these as configurations of the replay program.
+pub fn trials(random: &Random, packer: &mut Packer, scale: u32) {
+    let mut visit = |numbers| packer.group(&trial(random, numbers));
+    each_edge(&mut visit);
+    each_fault(random, 4 * scale, &mut visit);
 }

@@ -1,0 +1,64 @@
+//! Times the archive's check beside a plain one-pass checker in Rust, in the same run, on three
+//! valid traces. A measurement, not a test.
+
+use reference::coverage::Coverage;
+use reference::hand_in::site_number;
+use reference::past::Both;
+use reference::random::Random;
+use reference::script::bytes;
+use reference::sheet::{Sheet, SHEET_E};
+use reference::suites::{near, pool};
+use site::{call, load, plain};
+use std::hint::black_box;
+use std::time::Instant;
+
+const WORDS: usize = 8_000_000;
+const ROUNDS: u32 = 7;
+const SEED: u64 = 0x5EED_0007;
+
+/// A checker's answer and its million words a second.
+fn timed(check: fn(&Sheet, &[u8]) -> u32, trace: &[u8]) -> (u32, f64) {
+    let start = Instant::now();
+    let answer = check(black_box(&SHEET_E), black_box(trace));
+    let seconds = start.elapsed().as_secs_f64();
+    (answer, trace.len() as f64 / 4.0 / seconds / 1e6)
+}
+
+/// Both checkers in turn on a valid trace; the best of all rounds counts.
+fn compare(name: &str, words: Vec<u32>) {
+    let trace = bytes(&words);
+    let (mut fcram, mut rust) = (0.0_f64, 0.0_f64);
+    for _ in 0..ROUNDS {
+        for (best, check) in [
+            (&mut fcram, call::check as fn(&Sheet, &[u8]) -> u32),
+            (&mut rust, plain::check),
+        ] {
+            let (answer, speed) = timed(check, &trace);
+            assert_eq!(answer, 0, "a valid trace");
+            *best = best.max(speed);
+        }
+    }
+    let ratio = fcram / rust;
+    println!("{name:28} {fcram:8.1} {rust:8.1} {ratio:12.3}");
+}
+
+/// The plain checker answers as the reference does, or its speed would say nothing.
+fn plain_is_sound(random: &Random) {
+    let mut coverage = Coverage::default();
+    for way in 0..5_500 {
+        let sheet = pool::sheet(random);
+        let trace = bytes(&near::near_words(random, &mut coverage, sheet, way));
+        let wanted = site_number::<Both>(&sheet, &trace);
+        assert_eq!(plain::check(&sheet, &trace), wanted, "{sheet:?}");
+    }
+}
+
+fn main() {
+    let random = Random::new(SEED);
+    plain_is_sound(&random);
+    println!("{WORDS} words each, sheet E, seed {SEED:#x}, best of {ROUNDS} rounds in turn");
+    println!("million words a second          fcram     Rust   fcram/Rust");
+    compare("DESL and needed refreshes", load::idle(&SHEET_E, WORDS));
+    compare("dense accesses", load::busy(&random, &SHEET_E, WORDS));
+    compare("mixed at random", load::mixed(&random, &SHEET_E, WORDS));
+}

@@ -1,0 +1,68 @@
+//! Every short length in bytes at every address, and every beginning of a trace.
+
+use crate::run::Run;
+use reference::judge::{judge, Verdict};
+use reference::script::bytes;
+use reference::sheet::SHEET_E;
+use reference::suites::{long, near, pool};
+use reference::summary::Summary;
+use reference::word::{CS, DESL};
+
+/// The greatest of the short lengths, in bytes.
+const SHORT_LENGTHS: usize = 70;
+
+pub fn cases(run: &mut Run, scale: u32) {
+    for _ in 0..4 * scale {
+        short_lengths(run);
+    }
+    for round in 0..22 * scale {
+        beginnings(run, round);
+    }
+}
+
+/// Lengths up to 70 of good and bad words, at every address, within memory and up to its edge.
+fn short_lengths(run: &mut Run) {
+    let sheet = match run.random.once_in(2) {
+        true => SHEET_E,
+        false => pool::sheet(&run.random),
+    };
+    let valid = bytes(&long::dense_words(&run.random, &sheet, 300));
+    let noise: Vec<u8> = (0..72).map(|_| run.random.bits() as u8).collect();
+    let idle = bytes(&[DESL; 18]);
+    for content in [&valid[..72], &idle, &noise, &[0; 72], &[0xFF; 72]] {
+        for length in 0..=SHORT_LENGTHS {
+            for address in 0..4 {
+                for at_edge in [false, true] {
+                    run.short_at(&sheet, &content[..length], address, at_edge);
+                }
+            }
+        }
+        run.coverage.meet("0 to 70 bytes at every address");
+    }
+}
+
+/// Every beginning of a trace: word by word, and byte by byte near its end.
+fn beginnings(run: &mut Run, way: u32) {
+    let sheet = pool::sheet(&run.random);
+    let coverage = &mut run.coverage;
+    let words = near::near_words(&run.random, coverage, sheet, way);
+    let words = &words[..words.len().min(700)];
+    let trace = bytes(words);
+    for count in 0..words.len() {
+        run.short(&sheet, &trace[..4 * count]);
+        if open(&words[..count]) && judge::<Summary>(&sheet, &words[..count]) == Verdict::Accepted {
+            run.coverage.meet("accepted with a pair open at the end");
+        }
+    }
+    let end = trace.len().saturating_sub(24);
+    for length in end..=trace.len() {
+        run.short(&sheet, &trace[..length]);
+    }
+}
+
+/// Whether a trace ends with a pair open.
+fn open(words: &[u32]) -> bool {
+    words
+        .iter()
+        .fold(false, |open, word| !open && word & CS == 0)
+}

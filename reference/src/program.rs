@@ -1,0 +1,83 @@
+//! A program under comparison: runs it on an input and takes what it writes.
+
+use std::fs::File;
+use std::io::{Read, Write};
+use std::path::Path;
+use std::process::{Command, Stdio};
+use std::sync::mpsc;
+use std::thread;
+use std::time::Duration;
+
+/// How long one run may take.
+const PATIENCE: Duration = Duration::from_secs(300);
+
+/// How a program gets its standard input.
+#[derive(Clone, Copy, Debug, PartialEq, Eq)]
+pub enum Feed<'a> {
+    /// By a pipe, all at once.
+    Pipe,
+    /// By a pipe, so many bytes at a time with a pause after each, so that reads fall short.
+    Pieces(usize),
+    /// From a file, which is written at this path first and removed once it is open.
+    File(&'a Path),
+}
+
+/// What a run gave: the bytes on standard output and the exit code.
+#[derive(Debug)]
+pub struct Output {
+    pub bytes: Vec<u8>,
+    pub code: i32,
+}
+
+/// Runs the program at a path on an input. Fails if it cannot run, does not end, or a signal ends it.
+pub fn run(path: &Path, input: &[u8], feed: Feed) -> Result<Output, String> {
+    let stdin = match feed {
+        Feed::File(file) => {
+            std::fs::write(file, input).map_err(|e| format!("{}: {e}", file.display()))?;
+            let opened = File::open(file).map_err(|e| e.to_string())?;
+            let _ = std::fs::remove_file(file);
+            Stdio::from(opened)
+        }
+        _ => Stdio::piped(),
+    };
+    let mut child = Command::new(path)
+        .stdin(stdin)
+        .stdout(Stdio::piped())
+        .spawn()
+        .map_err(|e| format!("{}: {e}", path.display()))?;
+    if let Some(mut pipe) = child.stdin.take() {
+        let input = input.to_vec();
+        let size = match feed {
+            Feed::Pieces(size) => size,
+            _ => input.len().max(1),
+        };
+        // A program may stop reading at what it refuses, so a failed write is no fault.
+        thread::spawn(move || {
+            for piece in input.chunks(size) {
+                if pipe.write_all(piece).is_err() {
+                    return;
+                }
+                if size < input.len() {
+                    thread::sleep(Duration::from_micros(200));
+                }
+            }
+        });
+    }
+    let mut output = child.stdout.take().unwrap();
+    let (done, finished) = mpsc::channel();
+    thread::spawn(move || {
+        let mut bytes = Vec::new();
+        let read = output.read_to_end(&mut bytes);
+        done.send(read.map(|_| bytes))
+    });
+    let Ok(bytes) = finished.recv_timeout(PATIENCE) else {
+        let _ = child.kill();
+        return Err(format!("no end after {} s", PATIENCE.as_secs()));
+    };
+    let bytes = bytes.map_err(|e| e.to_string())?;
+    let status = child.wait().map_err(|e| e.to_string())?;
+    match status.code() {
+        Some(code) => Ok(Output { bytes, code }),
+        None => Err(format!("ended by a signal: {status}")),
+    }
+}

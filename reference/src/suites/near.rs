@@ -1,0 +1,153 @@
+//! Traces near the edges of the rules, and what they meet of them: for every suite that judges traces.
+
+use super::ending::{end, WAYS};
+use super::pool;
+use super::trace::{part_name, some_kind, Trace};
+use crate::coverage::Coverage;
+use crate::judge::first_broken;
+use crate::random::Random;
+use crate::sheet::Sheet;
+use crate::word::{CS, DESL, FN, PD};
+
+/// The breaches that can stand at one clock together; any other two exclude each other.
+const TOGETHER: [(u32, &[u32]); 11] = [
+    (1, &[2, 3, 4, 5, 6, 7, 8, 9, 10, 11, 12]),
+    (2, &[3, 4, 5, 6, 7, 8, 9, 10, 11, 12]),
+    (3, &[4, 5, 6, 7, 8, 9, 11]),
+    (4, &[9, 10, 11]),
+    (5, &[6, 7, 8, 9, 10]),
+    (6, &[9, 10]),
+    (7, &[8]),
+    (8, &[9, 10]),
+    (9, &[12]),
+    (10, &[12]),
+    (11, &[12]),
+];
+
+/// The parts of rules that a pair can wait out, and so meet at their very edge.
+pub const EDGES: [&str; 12] = [
+    "3 D",
+    "6 200 clocks",
+    "7 RC",
+    "8 RBD",
+    "8 RWD",
+    "8 WRD",
+    "9 RSC",
+    "10 REFC",
+    "11 RC",
+    "11 read data",
+    "11 write data",
+    "12 W",
+];
+
+/// The parts that no waiting mends.
+const OTHER_PARTS: [&str; 7] = [
+    "1 high bit",
+    "2 PD low",
+    "4 fields",
+    "5 lane",
+    "6 no extended MRS",
+    "6 no regular MRS",
+    "6 no second REF",
+];
+
+/// What the traces of one round must meet together.
+pub fn promised() -> Vec<String> {
+    let mut promised = Vec::new();
+    for (low, highs) in TOGETHER {
+        promised.extend(
+            highs
+                .iter()
+                .map(|high| format!("together: {low} and {high}")),
+        );
+    }
+    for part in EDGES {
+        promised.push(format!("kept at its edge: {part}"));
+        promised.push(format!("broken by one clock: {part}"));
+        promised.push(format!("broken alone: {part}"));
+    }
+    promised.extend(OTHER_PARTS.map(|part| format!("broken alone: {part}")));
+    promised.push("an older pair of the bank binds".to_string());
+    promised
+}
+
+/// One round of traces: two on every corner sheet, and many on sheets at random, ended in all ways.
+pub fn round(
+    random: &Random,
+    number: u32,
+    coverage: &mut Coverage,
+    judged: &mut dyn FnMut(&mut Coverage, &Sheet, &[u32]),
+) {
+    for (i, sheet) in pool::corners().into_iter().enumerate() {
+        for way in [number + i as u32, random.below(WAYS)] {
+            let words = near_words(random, coverage, sheet, way);
+            judged(coverage, &sheet, &words);
+        }
+    }
+    for way in 0..12_000 {
+        let sheet = pool::sheet(random);
+        let words = near_words(random, coverage, sheet, way);
+        judged(coverage, &sheet, &words);
+    }
+}
+
+/// A trace on a sheet that keeps close to the rules, ended in one of the ways.
+pub fn near_words(random: &Random, coverage: &mut Coverage, sheet: Sheet, way: u32) -> Vec<u32> {
+    let mut trace = Trace::new(sheet);
+    trace.start_up(random, coverage);
+    for _ in 0..random.pick(&[0, 1, 2, 5, 12]) {
+        let kind = some_kind(random);
+        trace.put_kind(random, kind, coverage);
+        if random.once_in(6) {
+            trace.idle_until(trace.clock() + random.below(6));
+        }
+    }
+    end(way % WAYS, &mut trace, random, coverage);
+    if random.once_in(3) {
+        trace.idle_until(trace.clock() + 3);
+    }
+    trace.words
+}
+
+/// Counts what a trace breaks at its first breaching clock: one part alone, or rules together.
+pub fn count_broken(coverage: &mut Coverage, sheet: &Sheet, words: &[u32]) {
+    let Some((_, broken)) = first_broken(sheet, words) else {
+        return;
+    };
+    if let [only] = broken[..] {
+        coverage.meet(&format!("broken alone: {}", part_name(&only)));
+    }
+    let mut numbers: Vec<u32> = broken.iter().map(|b| b.number).collect();
+    numbers.dedup();
+    for (i, low) in numbers.iter().enumerate() {
+        for high in &numbers[i + 1..] {
+            coverage.meet(&format!("together: {low} and {high}"));
+        }
+    }
+}
+
+/// A short trace of words at random, some with few pins in play.
+pub fn random_words(random: &Random) -> Vec<u32> {
+    let few = [
+        DESL,
+        PD,
+        PD | FN,
+        PD | 0x4000,
+        PD | FN | 0x4000,
+        PD | CS | 0x1_2000,
+        PD | 0x42,
+    ];
+    let all_bits = random.once_in(3);
+    let word = || match all_bits {
+        true => {
+            random.bits()
+                & if random.once_in(2) {
+                    u32::MAX
+                } else {
+                    0xF_FFFF
+                }
+        }
+        false => random.pick(&few),
+    };
+    (0..30).map(|_| word()).collect()
+}
