@@ -1,0 +1,3 @@
+-- Joining pieces of text, and the line of a verdict.
+pub mod Joined
+pub mod Verdicts

@@ -1,0 +1,37 @@
+-- Piece by piece. Assumes nothing.
+use native.Mathlib.Omega.{arith}
+use borrow.Author.Needs.{needs}
+use Rattle.marker.proofs.mark.accepted.Statement.{statement}
+use Rattle.marker.proofs.mark.accepted.Tie as tie
+
+empty-requires : tie.Need-empty-requires
+empty-requires c κs = search needs
+
+slice-aggregate-piece : tie.Need-slice-aggregate-piece
+slice-aggregate-piece c = search needs
+
+piece-requires : tie.Need-piece-requires
+piece-requires c κs = search needs
+
+number-requires : tie.Need-number-requires
+number-requires c κs = search needs
+
+push-requires : tie.Need-push-requires
+push-requires c κs = search needs
+
+returns : tie.Need-returns
+returns c = (
+  rw (c .push .ensures .0, c .before .number .ensures .0, c .before .before .piece .ensures .0, c .before .before .before .before .empty .ensures .0),
+  omega (arith, c .push .ensures .1, c .before .number .ensures .1, c .before .before .piece .ensures .1, c .before .before .before .before .empty .ensures .1),
+)
+
+pub accepted-spec : {M : Type 1} → statement M
+accepted-spec =
+    tie.close
+    (tie.spec
+    empty-requires
+    slice-aggregate-piece
+    piece-requires
+    number-requires
+    push-requires
+    returns)

@@ -1,0 +1,3 @@
+-- What the program writes, as a function of what it read.
+pub mod Text
+pub mod Mark

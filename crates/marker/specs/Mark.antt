@@ -1,0 +1,33 @@
+-- "The marker program reads little-endian words from standard input, uses sheet E, and prints one line: "accepted" and the word count,
+-- "breach", its clock and number, or "refused" and the number, in decimal."
+use Prim.Native.Nat.{ℕ, _/_}
+use mathlib.Core.List.{List, [], _∷_, _++_}
+use lib.ListN.{length}
+use lib.Dec.{leb}
+use Rattle.config.specs.Outcome.{Outcome, value, refused, require}
+use Rattle.config.specs.Sheet.{institute}
+use Rattle.protocol.specs.Verdict.{Judgement, accepted, breach, checkBytesOf}
+use Rattle.marker.specs.Text.{decimal}
+
+-- "Program: 25 more than 65,536 bytes; 29 bytes not a multiple of four."
+abbrev pub markOf : List ℕ → Outcome Judgement
+markOf bytes = require (leb (length bytes) 65536) 25 (checkBytesOf institute bytes)
+
+-- "accepted ", "breach ", "refused "
+abbrev pub acceptedText : List ℕ
+acceptedText = 97 ∷ 99 ∷ 99 ∷ 101 ∷ 112 ∷ 116 ∷ 101 ∷ 100 ∷ 32 ∷ []
+
+abbrev pub breachText : List ℕ
+breachText = 98 ∷ 114 ∷ 101 ∷ 97 ∷ 99 ∷ 104 ∷ 32 ∷ []
+
+abbrev pub refusedText : List ℕ
+refusedText = 114 ∷ 101 ∷ 102 ∷ 117 ∷ 115 ∷ 101 ∷ 100 ∷ 32 ∷ []
+
+-- the line with its line feed, given the count of words
+abbrev pub lineBy : ℕ → Outcome Judgement → List ℕ
+lineBy count (value accepted) = acceptedText ++ decimal count ++ (10 ∷ [])
+lineBy count (value (breach clock n)) = breachText ++ decimal clock ++ (32 ∷ []) ++ decimal n ++ (10 ∷ [])
+lineBy count (refused n) = refusedText ++ decimal n ++ (10 ∷ [])
+
+abbrev pub lineOf : List ℕ → List ℕ
+lineOf bytes = lineBy (length bytes / 4) (markOf bytes)
