@@ -5,7 +5,10 @@ use command::Request;
 use command::WriteAnswer;
 use config::Refusal;
 use config::TimingAnswer;
+use counts::CountsAnswer;
 use libc::STDOUT_FILENO;
+use protocol::Breach;
+use protocol::Verdict;
 
 fn text(bytes: &[u8]) {
     io::write_all(STDOUT_FILENO, bytes);
@@ -86,5 +89,53 @@ pub fn written(answer: WriteAnswer) {
             end();
         }
         WriteAnswer::Refused(why) => refused(why),
+    }
+}
+
+fn in_breach(breach: Breach) {
+    text(b"breach");
+    number(breach.clock);
+    number(breach.number);
+    end();
+}
+
+// A step's answer, with the clock that the checker has reached.
+pub fn stepped(verdict: Verdict, clock: u32) {
+    match verdict {
+        Verdict::Accepted => {
+            text(b"pass");
+            number(clock);
+            end();
+        }
+        Verdict::InBreach(breach) => in_breach(breach),
+        Verdict::Refused(why) => refused(why),
+    }
+}
+
+// The whole check's answer, with the count of words.
+pub fn checked(verdict: Verdict, count: u32) {
+    match verdict {
+        Verdict::Accepted => {
+            text(b"accepted");
+            number(count);
+            end();
+        }
+        Verdict::InBreach(breach) => in_breach(breach),
+        Verdict::Refused(why) => refused(why),
+    }
+}
+
+pub fn counted(answer: CountsAnswer) {
+    match answer {
+        CountsAnswer::Counted(counts) => {
+            text(b"counts");
+            number(counts.reads);
+            number(counts.writes);
+            number(counts.modes);
+            number(counts.refreshes);
+            number(counts.desls);
+            end();
+        }
+        CountsAnswer::Refused(why, _) => refused(why),
     }
 }

@@ -6,7 +6,9 @@ use crate::script::ahead;
 use crate::script::config_at;
 use crate::script::holds;
 use crate::script::request_at;
+use crate::script::start;
 use crate::script::word;
+use crate::traces;
 use command::Operation;
 use command::Pair;
 
@@ -14,14 +16,17 @@ pub fn call(bytes: &[u8], at: usize, state: State) -> Step {
     let code = word(bytes, at, 0);
     match code {
         1 => configure(bytes, at, state),
+        2 => traces::step(bytes, at, state),
+        3 => traces::check(bytes, at, state),
         6 => read(bytes, at, state),
         7 => write(bytes, at, state),
+        8 => traces::count(bytes, at, state),
         _ => Step { state, next: 0 },
     }
 }
 
 // The step behind a call of this many words.
-fn behind(state: State, at: usize, count: usize) -> Step {
+pub fn behind(state: State, at: usize, count: usize) -> Step {
     Step {
         state,
         next: ahead(at, count),
@@ -35,7 +40,7 @@ fn configure(bytes: &[u8], at: usize, state: State) -> Step {
     }
     let config = config_at(bytes, ahead(at, 1));
     answers::config(config.timing());
-    behind(State { config }, at, 11)
+    behind(start(config), at, 11)
 }
 
 // 6: read the pair.

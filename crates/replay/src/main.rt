@@ -3,7 +3,9 @@
 mod answers;
 mod calls;
 mod script;
+mod traces;
 
+use config::Config;
 use libc::STDIN_FILENO;
 
 fn main() {
@@ -23,7 +25,7 @@ fn run(bytes: &[u8]) {
         return;
     }
     let mut at = 0;
-    let mut state = script::start();
+    let mut state = script::start(Config::institute());
     while at < bytes.len() / 4 {
         let step = calls::call(bytes, at, state);
         let next = step.next;

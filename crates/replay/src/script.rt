@@ -1,11 +1,15 @@
 // The script's words, and what the program holds between calls.
 use command::Request;
+use protocol::Checker;
+ghost use mathlib.Core.Path.{_≡_};
+ghost use lib.ListN.{length};
 use config::Clocks;
 use config::Config;
 use config::Picoseconds;
 
 pub struct State {
     pub config: Config,
+    pub checker: Checker,
 }
 
 // The state after a call, and the index of the word behind it; an index that is not larger refuses the script.
@@ -14,9 +18,11 @@ pub struct Step {
     pub next: usize,
 }
 
-pub fn start() -> State {
+// A fresh checker on a configuration, accepted or not.
+pub fn start(config: Config) -> State {
     State {
-        config: Config::institute(),
+        config,
+        checker: Checker::fresh(config),
     }
 }
 
@@ -68,4 +74,15 @@ pub fn request_at(bytes: &[u8], at: usize) -> Request {
         lower: word(bytes, at, 4),
         upper: word(bytes, at, 5),
     }
+}
+
+// The words from an index on, 0 behind the last.
+pub fn loaded(bytes: &[u8], at: usize) -> [u32; 16384]
+    ensures { λ r. ⌜ 16384 ≡ length r ⌝ }
+{
+    let mut buffer = [0u32; 16384];
+    for i in 0..16384 {
+        buffer[i] = word(bytes, at, i);
+    }
+    buffer
 }

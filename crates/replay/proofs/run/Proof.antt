@@ -24,6 +24,9 @@ script-refused-requires-2 c κs = search needs
 returns-2 : tie.Need-returns-2 Inv-loop μ-loop
 returns-2 c = search needs
 
+institute-requires : tie.Need-institute-requires Inv-loop μ-loop
+institute-requires c κs = search needs
+
 start-requires : tie.Need-start-requires Inv-loop μ-loop
 start-requires c κs = search needs
 
@@ -58,6 +61,7 @@ run-spec =
     returns
     script-refused-requires-2
     returns-2
+    institute-requires
     start-requires
     loop-holds
     call-requires

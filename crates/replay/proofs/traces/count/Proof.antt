@@ -1,0 +1,64 @@
+-- The words are within the buffer. Assumes nothing.
+use mathlib.Core.Path.{sym}
+use native.Mathlib.Omega.{arith}
+use lib.Seq.{length-take-le}
+use borrow.Author.Needs.{needs}
+use Rattle.replay.proofs.traces.count.Statement.{statement}
+use Rattle.replay.proofs.traces.count.Tie as tie
+
+trace-fits-requires : tie.Need-trace-fits-requires
+trace-fits-requires c κs = search needs
+
+returns : tie.Need-returns
+returns c = search needs
+
+word-requires : tie.Need-word-requires
+word-requires c κs = search needs
+
+cast-length : tie.Need-cast-length
+cast-length c = search needs
+
+ahead-requires : tie.Need-ahead-requires
+ahead-requires c κs = search needs
+
+loaded-requires : tie.Need-loaded-requires
+loaded-requires c κs = search needs
+
+array-share-prefix-buffer : tie.Need-array-share-prefix-buffer
+array-share-prefix-buffer c = search needs
+
+slice-aggregate-count-commands : tie.Need-slice-aggregate-count-commands
+slice-aggregate-count-commands c = sym (length-take-le (c .before .before .before .before .word .result) (c .before .before .loaded .result) (omega arith))
+
+count-commands-requires : tie.Need-count-commands-requires
+count-commands-requires c κs = search needs
+
+counted-requires : tie.Need-counted-requires
+counted-requires c κs = search needs
+
+ahead-requires-2 : tie.Need-ahead-requires-2
+ahead-requires-2 c κs = search needs
+
+behind-requires : tie.Need-behind-requires
+behind-requires c κs = search needs
+
+returns-2 : tie.Need-returns-2
+returns-2 c = search needs
+
+pub count-spec : {M : Type 1} → statement M
+count-spec =
+    tie.close
+    (tie.spec
+    trace-fits-requires
+    returns
+    word-requires
+    cast-length
+    ahead-requires
+    loaded-requires
+    array-share-prefix-buffer
+    slice-aggregate-count-commands
+    count-commands-requires
+    counted-requires
+    ahead-requires-2
+    behind-requires
+    returns-2)

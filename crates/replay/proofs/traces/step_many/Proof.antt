@@ -1,0 +1,49 @@
+-- What is left falls at each step. Assumes nothing.
+use borrow.Author.Needs.{needs}
+use Rattle.replay.proofs.traces.step_many.Statement.{statement}
+use Rattle.replay.proofs.traces.step_many.Tie as tie
+
+abbrev Inv-loop : tie.InvT-loop
+Inv-loop count word now₀ left₀ now left = Unit {0}
+
+abbrev μ-loop : tie.MeasureT-loop
+μ-loop count word now₀ left₀ now left = left
+
+loop-holds : tie.Need-loop-holds Inv-loop μ-loop
+loop-holds c = search needs
+
+step-requires : tie.Need-step-requires Inv-loop μ-loop
+step-requires c κs = search needs
+
+passed-requires : tie.Need-passed-requires Inv-loop μ-loop
+passed-requires c κs = search needs
+
+returns : tie.Need-returns Inv-loop μ-loop
+returns c = search needs
+
+sub-left : tie.Need-sub-left Inv-loop μ-loop
+sub-left c = search needs
+
+loop-less : tie.Need-loop-less Inv-loop μ-loop
+loop-less c = search needs
+
+loop-again : tie.Need-loop-again Inv-loop μ-loop
+loop-again c = search needs
+
+returns-2 : tie.Need-returns-2 Inv-loop μ-loop
+returns-2 c = search needs
+
+pub step-many-spec : {M : Type 1} → statement M
+step-many-spec =
+    tie.close
+    (tie.spec
+    Inv-loop
+    μ-loop
+    loop-holds
+    step-requires
+    passed-requires
+    returns
+    sub-left
+    loop-less
+    loop-again
+    returns-2)
