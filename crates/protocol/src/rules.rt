@@ -67,6 +67,9 @@ fn lowest_closing(
 ) -> u32
     ensures { λ r. ⌜ r ≡ lowest 4 (r4 ∷ r5 ∷ r6 ∷ r7 ∷ r8 ∷ r9 ∷ r10 ∷ r11 ∷ r12 ∷ []) ⌝ }
 {
+    if !(r4 | (r5 | (r6 | (r7 | (r8 | (r9 | (r10 | (r11 | r12)))))))) {
+        return 0;
+    }
     if r4 {
         return 4;
     }

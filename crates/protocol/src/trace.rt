@@ -6,6 +6,7 @@ use crate::rules::word_breach;
 use crate::stamps::DESL;
 use crate::stamps::Timestamps;
 use crate::stamps::next_first;
+use command::pins::CS;
 use config::Config;
 use config::Refusal;
 use config::Timing;
@@ -31,7 +32,10 @@ fn judged(timing: Timing, words: &[u32]) -> Verdict
         if number != 0 {
             return Verdict::InBreach(Breach { clock, number });
         }
-        stamps = stamps.after(clock, first, word);
+        let opened = !(first / CS % 2 == 1);
+        if opened {
+            stamps = stamps.remembered(clock, first, word);
+        }
         first = next_first(first, word);
         clock += 1;
     }
@@ -51,7 +55,10 @@ fn judged_bytes(timing: Timing, bytes: &[u8]) -> Verdict
         if number != 0 {
             return Verdict::InBreach(Breach { clock, number });
         }
-        stamps = stamps.after(clock, first, word);
+        let opened = !(first / CS % 2 == 1);
+        if opened {
+            stamps = stamps.remembered(clock, first, word);
+        }
         first = next_first(first, word);
         clock += 1;
     }

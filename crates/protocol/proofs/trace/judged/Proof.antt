@@ -2,10 +2,12 @@
 use Prim.Native.Nat.{_-_, _≤_}
 use mathlib.Core.Path.{_≡_, _∙_, sym}
 use native.Mathlib.Omega.{arith}
+use mathlib.Core.Logic.{⊎-elim}
 use borrow.Author.Needs.{needs}
-use lib.ListN.{length, drop}
+use lib.ListN.{length, drop, getD}
 use denote.Ref.{now}
 use Rattle.protocol.specs.Verdict.{judge}
+use Rattle.protocol.specs.Stamps.{nextStamps}
 use Rattle.protocol.proofs.Words.{run, run-is, run-passes, run-breaches, run-ends}
 use Rattle.protocol.proofs.trace.judged.Statement.{statement}
 use Rattle.protocol.proofs.trace.judged.Tie as tie
@@ -16,6 +18,10 @@ Inv-loop timing words stamps₀ first₀ clock₀ stamps first clock =
 
 abbrev μ-loop : tie.MeasureT-loop
 μ-loop timing words stamps₀ first₀ clock₀ stamps first clock = length words - clock
+
+-- what is kept after the word, by whether a pair was open
+kept : (c : tie.Joined2 Inv-loop μ-loop) → c .if2 .stamps ≡ nextStamps (c .before .before .before .before .before .loop .stamps) (c .before .before .before .before .before .loop .clock) (c .before .before .before .before .before .loop .first) (getD (now (c .before .before .before .before .before .before .before .before .args .words)) (c .before .before .before .before .before .loop .clock) 0)
+kept c = ⊎-elim (λ w. rw (w .0 .taken) (w .2 ∙ w .1 .ensures)) (λ w. rw (w .0 .left) (w .1)) (c .if2 .came)
 
 never-requires : tie.Need-never-requires Inv-loop μ-loop
 never-requires c κs = search needs
@@ -45,8 +51,8 @@ returns c =
     rw
     (l .inv .1, run-breaches (a .timing) (l .stamps) (l .first) (now (a .words)) (l .clock) (c .before .before .before .loop-test .taken) (λ e. c .if1 .taken (c .before .word-breach .ensures ∙ e)), ← c .before .word-breach .ensures)
 
-after-requires : tie.Need-after-requires Inv-loop μ-loop
-after-requires c κs = search needs
+remembered-requires : tie.Need-remembered-requires Inv-loop μ-loop
+remembered-requires c κs = search needs
 
 next-first-requires : tie.Need-next-first-requires Inv-loop μ-loop
 next-first-requires c κs = search needs
@@ -62,7 +68,7 @@ loop-again c =
     let l = c .before .before .before .before .before .before .loop in
     let a = c .before .before .before .before .before .before .before .before .before .args in (
       search needs,
-      rw (c .before .after .ensures, c .next-first .ensures, l .inv .1)
+      rw (kept (c .before), c .next-first .ensures, l .inv .1)
           (run-passes (a .timing) (l .stamps) (l .first) (now (a .words)) (l .clock) (c .before .before .before .before .before .loop-test .taken)
           (sym (c .before .before .before .word-breach .ensures) ∙ c .before .before .if1 .left)),
     )
@@ -87,7 +93,7 @@ judged-spec =
     shared-slice-read-word
     word-breach-requires
     returns
-    after-requires
+    remembered-requires
     next-first-requires
     add-clock
     loop-less

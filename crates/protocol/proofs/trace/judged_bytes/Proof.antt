@@ -1,12 +1,14 @@
 -- As of a slice of words, by the list of words that the bytes make. Assumes nothing.
 use Prim.Native.Nat.{_-_, _/_, _≤_, _<_}
 use mathlib.Core.Path.{_≡_, _∙_, sym}
+use mathlib.Core.Logic.{⊎-elim}
 use borrow.Author.Needs.{needs}
 use lib.ListN.{length, drop, getD}
 use denote.Ref.{now}
 use Rattle.words.specs.Words.{wordsOf}
 use Rattle.words.proofs.Listed.{words-length, word-listed}
 use Rattle.protocol.specs.Verdict.{judge}
+use Rattle.protocol.specs.Stamps.{nextStamps}
 use Rattle.protocol.proofs.Words.{run, run-is, run-passes, run-breaches, run-ends}
 use Rattle.protocol.proofs.trace.judged_bytes.Statement.{statement}
 use Rattle.protocol.proofs.trace.judged_bytes.Tie as tie
@@ -24,6 +26,10 @@ inside c = rw (words-length (now (c .before .before .before .before .args .bytes
 
 word : (c : tie.After-word-at Inv-loop μ-loop) → c .word-at .result ≡ getD (wordsOf (now (c .before .before .before .before .before .args .bytes))) (c .before .before .loop .clock) 0
 word c = c .word-at .ensures ∙ word-listed (now (c .before .before .before .before .before .args .bytes)) (c .before .before .loop .clock) (c .before .loop-test .taken)
+
+-- what is kept after the word, by whether a pair was open
+kept : (c : tie.Joined2 Inv-loop μ-loop) → c .if2 .stamps ≡ nextStamps (c .before .before .before .before .before .loop .stamps) (c .before .before .before .before .before .loop .clock) (c .before .before .before .before .before .loop .first) (c .before .before .before .word-at .result)
+kept c = ⊎-elim (λ w. rw (w .0 .taken) (w .2 ∙ w .1 .ensures)) (λ w. rw (w .0 .left) (w .1)) (c .if2 .came)
 
 never-requires : tie.Need-never-requires Inv-loop μ-loop
 never-requires c κs = search needs
@@ -51,8 +57,8 @@ returns c =
     rw
     (l .inv .1, run-breaches (a .timing) (l .stamps) (l .first) (wordsOf (now (a .bytes))) (l .clock) (inside (c .before .before .before)) (λ e. c .if1 .taken (c .before .word-breach .ensures ∙ (rw w e))), ← w, ← c .before .word-breach .ensures)
 
-after-requires : tie.Need-after-requires Inv-loop μ-loop
-after-requires c κs = search needs
+remembered-requires : tie.Need-remembered-requires Inv-loop μ-loop
+remembered-requires c κs = search needs
 
 next-first-requires : tie.Need-next-first-requires Inv-loop μ-loop
 next-first-requires c κs = search needs
@@ -69,7 +75,7 @@ loop-again c =
     let a = c .before .before .before .before .before .before .before .before .before .args in
     let w = word (c .before .before .before .before) in (
       search needs,
-      rw (c .before .after .ensures, c .next-first .ensures, l .inv .1, w)
+      rw (kept (c .before), c .next-first .ensures, l .inv .1, w)
           (run-passes (a .timing) (l .stamps) (l .first) (wordsOf (now (a .bytes))) (l .clock) (inside (c .before .before .before .before .before))
           (rw (← w) (sym (c .before .before .before .word-breach .ensures) ∙ c .before .before .if1 .left))),
     )
@@ -94,7 +100,7 @@ judged-bytes-spec =
     word-at-requires
     word-breach-requires
     returns
-    after-requires
+    remembered-requires
     next-first-requires
     add-clock
     loop-less
