@@ -1,12 +1,16 @@
 -- "Clocks on either edge, sheet E": the published cases as one table, and one test that is computed over all of it.
-use Prim.Native.Nat.{ℕ, zero, suc, _+_, _-_}
+use Prim.Native.Nat.{ℕ, _+_, _-_, _*_}
 use mathlib.Core.Path.{_≡_, refl}
 use mathlib.Core.Bool.{Bool, true, false, _&&_}
 use mathlib.Core.List.{List, [], _∷_, _++_}
 use lib.ListN.{replicate}
 use lib.Dec.{eqb}
 use Rattle.config.specs.Outcome.{Outcome, value, refused}
-use Rattle.config.specs.Sheet.{institute}
+use Rattle.config.specs.Sheet.{institute, timingOf}
+use Rattle.config.specs.declared.Config.{Config}
+use Rattle.command.specs.Writing.{writePair}
+use Rattle.command.specs.declared.operation.Operation.the-variants.{Access}
+use Rattle.command.specs.declared.operation.Pair.{Pair}
 use Rattle.protocol.specs.Verdict.{Judgement, accepted, breach, checkOf}
 
 -- a pair at a clock
@@ -18,7 +22,7 @@ pub record At : Type 0 where
 abbrev pub pair : ℕ → ℕ → ℕ → At
 pair k f s = record { clock = k; first = f; second = s }
 
--- the words from a clock on: the pairs at their clocks, and DESL fills the gaps, also behind them
+-- the words from a clock on: the pairs at their clocks, DESL in the gaps, and some DESL behind
 abbrev pub words : ℕ → List At → ℕ → List ℕ
 words k [] more = replicate more 0xC0000
 words k (p ∷ ps) more = replicate (p .clock - k) 0xC0000 ++ (p .first ∷ p .second ∷ words (p .clock + 2) ps more)
@@ -27,11 +31,88 @@ words k (p ∷ ps) more = replicate (p .clock - k) 0xC0000 ++ (p .first ∷ p .s
 abbrev pub startUp : List At
 startUp = pair 0 0xA0000 0x84000 ∷ pair 7 0xA0000 0x80042 ∷ pair 14 0x80000 0x80000 ∷ pair 32 0x80000 0x80000 ∷ []
 
-abbrev pub verdictOf : List At → ℕ → Outcome Judgement
-verdictOf ps more = checkOf institute (words 0 (startUp ++ ps) more)
+-- reads and writes of bank b, row and column 0; the write has four words in each lane
+abbrev pub readAt : ℕ → ℕ → At
+readAt k b = pair k (0xA0000 + b) 0xC0000
 
-test : verdictOf [] 780 ≡ value accepted
-test = refl
+abbrev pub writeAt : ℕ → ℕ → At
+writeAt k b = pair k (0x80000 + b) 0xD1000
 
-test2 : verdictOf [] 781 ≡ value (breach 814 3)
-test2 = refl
+abbrev pub modeAt : ℕ → At
+modeAt k = pair k 0xA0000 0x80042
+
+abbrev pub bank1 : ℕ
+bank1 = 0x4000
+
+-- an outcome as one number: 0 for a value, the refusal's, or the breach's clock and number
+abbrev pub number : Outcome Judgement → ℕ
+number (value accepted) = 0
+number (value (breach k n)) = k * 100 + n
+number (refused n) = n
+
+-- the verdict on the start-up, these pairs, and DESL behind them
+abbrev pub marked : List At → ℕ → ℕ
+marked ps more = number (checkOf institute (words 0 (startUp ++ ps) more))
+
+abbrev pub withPeriod : ℕ → Config
+withPeriod p =
+    record {
+      grade = institute .grade;
+      cl = institute .cl;
+      bl = institute .bl;
+      organisation = institute .organisation;
+      period = record { 0 = p };
+      rbd = institute .rbd;
+      rwd = institute .rwd;
+      wrd = institute .wrd;
+      rsc = institute .rsc;
+      refc = institute .refc;
+    }
+
+abbrev pub refusal : {A : Type 0} → Outcome A → ℕ
+refusal (value a) = 0
+refusal (refused n) = n
+
+-- what a case comes to, and what the paper says
+pub record Row : Type 0 where
+  pub found : ℕ
+  pub published : ℕ
+
+abbrev pub row : ℕ → ℕ → Row
+row a b = record { found = a; published = b }
+
+-- the second word of a written pair
+abbrev pub lalOf : Outcome Pair → ℕ
+lalOf (value p) = p .second
+lalOf (refused n) = 0
+
+abbrev pub table : List Row
+table =
+    -- b. Same bank reads 201, 206 pass; 201, 205: breach 7 at 206.
+    row (marked (readAt 201 0 ∷ readAt 206 0 ∷ []) 0) 0
+    ∷ row (marked (readAt 201 0 ∷ readAt 205 0 ∷ []) 0) 20607
+    -- c. Read 201, other bank's write 205 passes; 204: breach 8 at 205.
+    ∷ row (marked (readAt 201 0 ∷ writeAt 205 bank1 ∷ []) 0) 0
+    ∷ row (marked (readAt 201 0 ∷ writeAt 204 bank1 ∷ []) 0) 20508
+    -- d. Write 201, other bank's read 203 passes.
+    ∷ row (marked (writeAt 201 0 ∷ readAt 203 bank1 ∷ []) 0) 0
+    -- e. Last REF 33: REF at 813 passes; none: breach 3 at 814.
+    ∷ row (marked (pair 812 0x80000 0x80000 ∷ []) 0) 0
+    ∷ row (marked [] 780) 0
+    ∷ row (marked [] 781) 81403
+    -- f. Read 201, mode 208 passes; 207: breach 11 at 208.
+    ∷ row (marked (readAt 201 0 ∷ modeAt 208 ∷ []) 0) 0
+    ∷ row (marked (readAt 201 0 ∷ modeAt 207 ∷ []) 0) 20811
+    -- g. Write LAL, column 0, four words each lane: D1000.
+    ∷ row (lalOf (writePair institute (Access (record { write = true; bank = 0; row = 0; column = 0; lower = 4; upper = 4 })))) 0xD1000
+    -- h. Period 4500 fits; 4499 refuses 21.
+    ∷ row (refusal (timingOf (withPeriod 4500))) 0
+    ∷ row (refusal (timingOf (withPeriod 4499))) 21
+    ∷ []
+
+abbrev pub agree : List Row → Bool
+agree [] = true
+agree (r ∷ rs) = eqb (r .found) (r .published) && agree rs
+
+pub cases : agree table ≡ true
+cases = refl

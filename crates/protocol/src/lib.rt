@@ -1,9 +1,11 @@
 // The published rules: a checker that keeps a bounded state, by the word and over a whole trace.
+mod bytes;
 mod checker;
 mod rules;
 mod stamps;
 mod trace;
 
+pub use bytes::check_bytes;
 pub use checker::Breach;
 pub use checker::Checker;
 pub use checker::LIMIT;
@@ -17,4 +19,3 @@ pub use stamps::DESL;
 pub use stamps::Timestamps;
 pub use stamps::next_first;
 pub use trace::check;
-pub use trace::check_bytes;

@@ -110,7 +110,7 @@ impl Timestamps {
     }
 
     // What is kept after a word, where `first` is the word of the open pair, or one with CS high where none is open.
-    pub fn after(self, clock: u32, first: u32, word: u32) -> Timestamps
+    pub(crate) fn after(self, clock: u32, first: u32, word: u32) -> Timestamps
         ensures { λ r. ⌜ r ≡ nextStamps self clock first word ⌝ }
     {
         let opened = !(first / CS % 2 == 1);

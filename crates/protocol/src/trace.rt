@@ -12,11 +12,10 @@ use config::Refusal;
 use config::Timing;
 use config::TimingAnswer;
 ghost use mathlib.Core.Path.{_≡_};
-ghost use Prim.Native.Nat.{_≤_, _/_};
+ghost use Prim.Native.Nat.{_≤_};
 ghost use lib.ListN.{length};
 ghost use Rattle.config.specs.Outcome.{value};
-ghost use Rattle.words.specs.Words.{wordsOf};
-ghost use Rattle.protocol.specs.Verdict.{judge, checkOf, checkBytesOf};
+ghost use Rattle.protocol.specs.Verdict.{judge, checkOf};
 ghost use Rattle.protocol.specs.Steps.{verdictOutcome};
 
 fn judged(timing: Timing, words: &[u32]) -> Verdict
@@ -42,29 +41,6 @@ fn judged(timing: Timing, words: &[u32]) -> Verdict
     Verdict::Accepted
 }
 
-fn judged_bytes(timing: Timing, bytes: &[u8]) -> Verdict
-    requires { ⌜ length (now bytes) / 4 ≤ 16777216 ⌝ }
-    ensures { λ r. ⌜ verdictOutcome r ≡ value (judge timing (wordsOf (now (bytes .entry)))) ⌝ }
-{
-    let mut stamps = Timestamps::never();
-    let mut first = DESL;
-    let mut clock: u32 = 0;
-    while (clock as usize) < bytes.len() / 4 {
-        let word = words::word_at(bytes, clock as usize);
-        let number = word_breach(timing, stamps, clock, first, word);
-        if number != 0 {
-            return Verdict::InBreach(Breach { clock, number });
-        }
-        let opened = !(first / CS % 2 == 1);
-        if opened {
-            stamps = stamps.remembered(clock, first, word);
-        }
-        first = next_first(first, word);
-        clock += 1;
-    }
-    Verdict::Accepted
-}
-
 // The verdict on a trace: the configuration's refusals, then 24 for more than 16,777,216 words.
 pub fn check(config: Config, words: &[u32]) -> Verdict
     ensures { λ r. ⌜ verdictOutcome r ≡ checkOf config (now (words .entry)) ⌝ }
@@ -74,25 +50,6 @@ pub fn check(config: Config, words: &[u32]) -> Verdict
         TimingAnswer::Accepted(timing) => {
             if words.len() <= LIMIT as usize {
                 judged(timing, words)
-            } else {
-                Verdict::Refused(Refusal::ClockLimit)
-            }
-        }
-    }
-}
-
-// The verdict on a trace of little-endian bytes: the configuration's refusals, then 29 for bytes that are no whole words, then 24.
-pub fn check_bytes(config: Config, bytes: &[u8]) -> Verdict
-    ensures { λ r. ⌜ verdictOutcome r ≡ checkBytesOf config (now (bytes .entry)) ⌝ }
-{
-    match config.timing() {
-        TimingAnswer::Refused(why) => Verdict::Refused(why),
-        TimingAnswer::Accepted(timing) => {
-            if bytes.len() % 4 != 0 {
-                return Verdict::Refused(Refusal::PartialWord);
-            }
-            if bytes.len() / 4 <= LIMIT as usize {
-                judged_bytes(timing, bytes)
             } else {
                 Verdict::Refused(Refusal::ClockLimit)
             }

@@ -10,8 +10,8 @@ use Rattle.words.proofs.Listed.{words-length, word-listed}
 use Rattle.protocol.specs.Verdict.{judge}
 use Rattle.protocol.specs.Stamps.{nextStamps}
 use Rattle.protocol.proofs.Words.{run, run-is, run-passes, run-breaches, run-ends}
-use Rattle.protocol.proofs.trace.judged_bytes.Statement.{statement}
-use Rattle.protocol.proofs.trace.judged_bytes.Tie as tie
+use Rattle.protocol.proofs.bytes.judged_bytes.Statement.{statement}
+use Rattle.protocol.proofs.bytes.judged_bytes.Tie as tie
 
 abbrev Inv-loop : tie.InvT-loop
 Inv-loop timing bytes stamps₀ first₀ clock₀ stamps first clock =

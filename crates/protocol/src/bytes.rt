@@ -1,0 +1,62 @@
+// The whole check of a trace that is handed over as bytes.
+use crate::checker::Breach;
+use crate::checker::LIMIT;
+use crate::checker::Verdict;
+use crate::rules::word_breach;
+use crate::stamps::DESL;
+use crate::stamps::Timestamps;
+use crate::stamps::next_first;
+use command::pins::CS;
+use config::Config;
+use config::Refusal;
+use config::Timing;
+use config::TimingAnswer;
+ghost use mathlib.Core.Path.{_≡_};
+ghost use Prim.Native.Nat.{_≤_, _/_};
+ghost use lib.ListN.{length};
+ghost use Rattle.config.specs.Outcome.{value};
+ghost use Rattle.words.specs.Words.{wordsOf};
+ghost use Rattle.protocol.specs.Verdict.{judge, checkBytesOf};
+ghost use Rattle.protocol.specs.Steps.{verdictOutcome};
+
+fn judged_bytes(timing: Timing, bytes: &[u8]) -> Verdict
+    requires { ⌜ length (now bytes) / 4 ≤ 16777216 ⌝ }
+    ensures { λ r. ⌜ verdictOutcome r ≡ value (judge timing (wordsOf (now (bytes .entry)))) ⌝ }
+{
+    let mut stamps = Timestamps::never();
+    let mut first = DESL;
+    let mut clock: u32 = 0;
+    while (clock as usize) < bytes.len() / 4 {
+        let word = words::word_at(bytes, clock as usize);
+        let number = word_breach(timing, stamps, clock, first, word);
+        if number != 0 {
+            return Verdict::InBreach(Breach { clock, number });
+        }
+        let opened = !(first / CS % 2 == 1);
+        if opened {
+            stamps = stamps.remembered(clock, first, word);
+        }
+        first = next_first(first, word);
+        clock += 1;
+    }
+    Verdict::Accepted
+}
+
+// The verdict on a trace of little-endian bytes: the configuration's refusals, then 29 for bytes that are no whole words, then 24.
+pub fn check_bytes(config: Config, bytes: &[u8]) -> Verdict
+    ensures { λ r. ⌜ verdictOutcome r ≡ checkBytesOf config (now (bytes .entry)) ⌝ }
+{
+    match config.timing() {
+        TimingAnswer::Refused(why) => Verdict::Refused(why),
+        TimingAnswer::Accepted(timing) => {
+            if bytes.len() % 4 != 0 {
+                return Verdict::Refused(Refusal::PartialWord);
+            }
+            if bytes.len() / 4 <= LIMIT as usize {
+                judged_bytes(timing, bytes)
+            } else {
+                Verdict::Refused(Refusal::ClockLimit)
+            }
+        }
+    }
+}
