@@ -6,6 +6,8 @@ use command::pins::FN;
 use command::pins::PD;
 use config::Timing;
 ghost use mathlib.Core.Path.{_≡_};
+ghost use mathlib.Core.Bool.{true, false};
+ghost use Rattle.command.specs.Reading.{lal};
 ghost use mathlib.Core.List.{[], _∷_};
 ghost use Prim.Native.Nat.{_+_};
 ghost use Rattle.protocol.specs.Rules.{lowest};
@@ -104,27 +106,86 @@ fn unready(extended: u32, regular: u32, second_last: u32, clock: u32) -> bool
     (extended == 0) | (regular == 0) | (second_last == 0) | ((clock as u64) < extended as u64 + 201)
 }
 
-// Rule 8.
-fn too_close(rda: bool, lal: bool, timing: Timing, read: u32, write: u32, clock: u32) -> bool
-    ensures { λ r. ⌜ r ≡ tooClose rda lal timing read write clock ⌝ }
+// Rule 8, for a read or write.
+fn too_close(rda: bool, timing: Timing, read: u32, write: u32, clock: u32) -> bool
+    ensures { λ r. ⌜ r ≡ tooClose rda true timing read write clock ⌝ }
 {
     let after_read = near(clock, read, timing.rbd);
     let after_write = near(clock, write, timing.rbd);
     let read_to_write = near_lal(clock, read, timing.rwd);
     let write_to_read = near_lal(clock, write, timing.wrd);
-    lal & (after_read | after_write) | !rda & lal & read_to_write | rda & lal & write_to_read
+    (after_read | after_write) | !rda & read_to_write | rda & write_to_read
 }
 
-// Rule 11.
-fn busy(rda: bool, lal: bool, timing: Timing, read: u32, write: u32, clock: u32) -> bool
-    ensures { λ r. ⌜ r ≡ busy rda lal timing read write clock ⌝ }
+// Rule 11, for an MRS or REF.
+fn busy(rda: bool, timing: Timing, read: u32, write: u32, clock: u32) -> bool
+    ensures { λ r. ⌜ r ≡ busy rda false timing read write clock ⌝ }
 {
     let half = timing.bl / 2;
     let after_read = near(clock, read, timing.rc);
     let after_write = near(clock, write, timing.rc);
     let read_data = near_data(clock, read, timing.cl, half);
     let write_data = near_data(clock, write, timing.wl, half);
-    !lal & (after_read | after_write) | rda & !lal & read_data | rda & !lal & write_data
+    (after_read | after_write) | rda & read_data | rda & write_data
+}
+
+// Rules 4 to 12 at the LAL word of a read or write.
+fn access_breach(timing: Timing, stamps: Timestamps, clock: u32, first: u32, second: u32) -> u32
+    requires { ⌜ lal second ≡ true ⌝ }
+    ensures { λ r. ⌜ r ≡ closingBreach timing stamps clock first second ⌝ }
+{
+    let rda = first / FN % 2 == 1;
+    let banks = stamps.banks;
+    let refs = stamps.refs;
+    let bank = (first / BA0 % 8) as usize;
+    let reserved = command::lane_reserved(timing, first, second);
+    let unready = unready(stamps.extended, stamps.regular, refs[1], clock);
+    let same_bank = near(clock, banks[bank], timing.rc);
+    let too_close = too_close(rda, timing, stamps.read, stamps.write, clock);
+    let after_mode = near(clock, stamps.mode, timing.rsc);
+    let after_refresh = near(clock, refs[0], timing.refc);
+    lowest_closing(
+        false,
+        reserved,
+        unready,
+        same_bank,
+        too_close,
+        after_mode,
+        after_refresh,
+        false,
+        false,
+    )
+}
+
+// Rules 4 to 12 at an MRS or REF word.
+fn mode_or_refresh_breach(
+    timing: Timing,
+    stamps: Timestamps,
+    clock: u32,
+    first: u32,
+    second: u32,
+) -> u32
+    requires { ⌜ lal second ≡ false ⌝ }
+    ensures { λ r. ⌜ r ≡ closingBreach timing stamps clock first second ⌝ }
+{
+    let rda = first / FN % 2 == 1;
+    let refs = stamps.refs;
+    let wrong = command::mode_wrong(timing, first, second);
+    let after_mode = near(clock, stamps.mode, timing.rsc);
+    let after_refresh = near(clock, refs[0], timing.refc);
+    let busy = busy(rda, timing, stamps.read, stamps.write, clock);
+    let in_window = near(clock, refs[7], timing.window);
+    lowest_closing(
+        wrong,
+        false,
+        false,
+        false,
+        false,
+        after_mode,
+        after_refresh,
+        busy,
+        !rda & in_window,
+    )
 }
 
 // Rules 4 to 12 at the closing word of a pair.
@@ -137,31 +198,12 @@ pub fn closing_breach(
 ) -> u32
     ensures { λ r. ⌜ r ≡ closingBreach timing stamps clock first second ⌝ }
 {
-    let rda = first / FN % 2 == 1;
     let lal = second / CS % 2 == 1;
-    let banks = stamps.banks;
-    let refs = stamps.refs;
-    let bank = (first / BA0 % 8) as usize;
-    let wrong = command::mode_wrong(timing, first, second);
-    let reserved = command::lane_reserved(timing, first, second);
-    let unready = unready(stamps.extended, stamps.regular, refs[1], clock);
-    let same_bank = near(clock, banks[bank], timing.rc);
-    let too_close = too_close(rda, lal, timing, stamps.read, stamps.write, clock);
-    let after_mode = near(clock, stamps.mode, timing.rsc);
-    let after_refresh = near(clock, refs[0], timing.refc);
-    let busy = busy(rda, lal, timing, stamps.read, stamps.write, clock);
-    let in_window = near(clock, refs[7], timing.window);
-    lowest_closing(
-        wrong,
-        reserved,
-        lal & unready,
-        lal & same_bank,
-        too_close,
-        after_mode,
-        after_refresh,
-        busy,
-        !rda & !lal & in_window,
-    )
+    if lal {
+        access_breach(timing, stamps, clock, first, second)
+    } else {
+        mode_or_refresh_breach(timing, stamps, clock, first, second)
+    }
 }
 
 // The lowest breach number at a word, or 0, where `first` is the word of the open pair, or one with CS high where none is open.

@@ -1,4 +1,5 @@
 -- Each spacing is its leaf's. Assumes nothing.
+use mathlib.Core.Bool.{and-true}
 use borrow.Author.Needs.{needs}
 use Rattle.protocol.proofs.rules.busy.Statement.{statement}
 use Rattle.protocol.proofs.rules.busy.Tie as tie
@@ -16,7 +17,7 @@ near-data-requires-2 : tie.Need-near-data-requires-2
 near-data-requires-2 c κs = search needs
 
 returns : tie.Need-returns
-returns c = rw (c .before .before .before .near .ensures, c .before .before .near2 .ensures, c .before .near-data .ensures, c .near-data2 .ensures)
+returns c = rw (c .before .before .before .near .ensures, c .before .before .near2 .ensures, c .before .near-data .ensures, c .near-data2 .ensures, and-true (c .before .before .before .before .before .args .rda))
 
 pub busy-spec : {M : Type 1} → statement M
 busy-spec =

@@ -1,13 +1,12 @@
--- Each test is its leaf's, in the order of the rules. Assumes nothing.
+-- The tests that only an MRS or REF can meet are false at a LAL word. Assumes nothing.
+use mathlib.Core.Bool.{not, and-false}
+use Rattle.command.specs.Reading.{rda}
 use borrow.Author.Needs.{needs}
-use Rattle.protocol.proofs.rules.closing_breach.Statement.{statement}
-use Rattle.protocol.proofs.rules.closing_breach.Tie as tie
+use Rattle.protocol.proofs.rules.access_breach.Statement.{statement}
+use Rattle.protocol.proofs.rules.access_breach.Tie as tie
 
 cast-bank : tie.Need-cast-bank
 cast-bank c = search needs
-
-mode-wrong-requires : tie.Need-mode-wrong-requires
-mode-wrong-requires c κs = search needs
 
 lane-reserved-requires : tie.Need-lane-reserved-requires
 lane-reserved-requires c κs = search needs
@@ -39,28 +38,17 @@ array-read-near-2 c = search needs
 near-requires-3 : tie.Need-near-requires-3
 near-requires-3 c κs = search needs
 
-busy-requires : tie.Need-busy-requires
-busy-requires c κs = search needs
-
-array-read-near-3 : tie.Need-array-read-near-3
-array-read-near-3 c = search needs
-
-near-requires-4 : tie.Need-near-requires-4
-near-requires-4 c κs = search needs
-
 lowest-closing-requires : tie.Need-lowest-closing-requires
 lowest-closing-requires c κs = search needs
 
 returns : tie.Need-returns
-returns c = rw
-    (c .lowest-closing .ensures, c .before .before .before .before .before .before .before .before .before .mode-wrong .ensures, c .before .before .before .before .before .before .before .before .lane-reserved .ensures, c .before .before .before .before .before .before .before .unready .ensures, c .before .before .before .before .before .before .near .ensures, c .before .before .before .before .before .too-close .ensures, c .before .before .before .before .near2 .ensures, c .before .before .before .near3 .ensures, c .before .before .busy .ensures, c .before .near4 .ensures)
+returns c = rw (c .lowest-closing .ensures, c .before .before .before .before .before .before .lane-reserved .ensures, c .before .before .before .before .before .unready .ensures, c .before .before .before .before .near .ensures, c .before .before .before .too-close .ensures, c .before .before .near2 .ensures, c .before .near3 .ensures, c .before .before .before .before .before .before .before .before .before .pre, and-false (rda (c .before .before .before .before .before .before .before .before .before .args .first)), and-false (not (rda (c .before .before .before .before .before .before .before .before .before .args .first))))
 
-pub closing-breach-spec : {M : Type 1} → statement M
-closing-breach-spec =
+pub access-breach-spec : {M : Type 1} → statement M
+access-breach-spec =
     tie.close
     (tie.spec
     cast-bank
-    mode-wrong-requires
     lane-reserved-requires
     array-read-unready
     unready-requires
@@ -71,8 +59,5 @@ closing-breach-spec =
     near-requires-2
     array-read-near-2
     near-requires-3
-    busy-requires
-    array-read-near-3
-    near-requires-4
     lowest-closing-requires
     returns)
