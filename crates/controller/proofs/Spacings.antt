@@ -1,0 +1,123 @@
+-- A pair breaches nothing where each spacing that binds it has run out. Assumes nothing.
+use Prim.Native.Nat.{ℕ, _+_, _≤_}
+use mathlib.Core.Path.{_≡_, refl}
+use mathlib.Core.Bool.{Bool, true, false, not, _&&_, _||_, and-false, false≢true}
+use mathlib.Core.Logic.{_⊎_, inl, inr}
+use borrow.Author.Tests.{le-ltb, not-true}
+use lib.ListN.{getD}
+use Rattle.config.specs.declared.Timing.{Timing}
+use Rattle.config.proofs.Bounds.{both}
+use Rattle.command.specs.Pins.{high, strayBit}
+use Rattle.command.specs.Reading.{rda, lal, modeWrong, laneReserved, soundPair}
+use Rattle.protocol.specs.Stamps.{near, overdue, bankStamp, notReady, wordBreach}
+use Rattle.protocol.specs.declared.stamps.Timestamps.{Timestamps}
+
+-- the spacing n behind an event at c, if there was one, has run out by k
+abbrev pub Over : ℕ → ℕ → ℕ → Type 0
+Over k c n = (c ≡ 0) ⊎ (c + n ≤ k)
+
+pub over-near : (k c n : ℕ) → Over k c n → near k c n ≡ false
+over-near k c n (inl e) = rw e
+over-near k c n (inr h) = rw (le-ltb k (c + n) h, and-false)
+
+-- no REF word is overdue at k
+abbrev pub InTime : Timing → Timestamps → ℕ → Type 0
+InTime t s k = (getD (s .refs) 0 0 ≡ 0) ⊎ (k ≤ getD (s .refs) 0 0 + t .refi)
+
+pub not-overdue : (t : Timing) (s : Timestamps) (k : ℕ) → InTime t s k → overdue (t .refi) (getD (s .refs) 0 0) k ≡ false
+not-overdue t s k (inl e) = rw e
+not-overdue t s k (inr h) = rw (le-ltb (getD (s .refs) 0 0 + t .refi) k h, and-false)
+
+-- the tests that a sound pair passes
+pub record SoundTests (t : Timing) (first second : ℕ) : Type 0 where
+  pub cs : high 18 first ≡ false
+  pub stray₁ : strayBit first ≡ false
+  pub stray₂ : strayBit second ≡ false
+  pub pd₁ : high 19 first ≡ true
+  pub pd₂ : high 19 second ≡ true
+  pub mode : modeWrong t first second ≡ false
+  pub lane : laneReserved t first second ≡ false
+
+neither : (a b : Bool) → not (a || b) ≡ true → (a ≡ false) × (b ≡ false)
+neither false false e = (refl, refl)
+neither false true e = absurd (false≢true e)
+neither true b e = absurd (false≢true e)
+
+pub sound-tests : (t : Timing) (first second : ℕ) → soundPair t first second ≡ true → SoundTests t first second
+sound-tests t f s e =
+    let a = not (high 18 f) in
+    let b = not (strayBit f || strayBit s) in
+    let d = high 19 f && high 19 s in
+    let m = not (modeWrong t f s) in
+    let h₁ = both (a && b && d && m) (not (laneReserved t f s)) e in
+    let h₂ = both (a && b && d) m (h₁ .0) in
+    let h₃ = both (a && b) d (h₂ .0) in
+    let h₄ = both a b (h₃ .0) in
+    let strays = neither (strayBit f) (strayBit s) (h₄ .1) in
+    let pd = both (high 19 f) (high 19 s) (h₃ .1) in
+    record {
+      cs = not-true (high 18 f) (h₄ .0);
+      stray₁ = strays .0;
+      stray₂ = strays .1;
+      pd₁ = pd .0;
+      pd₂ = pd .1;
+      mode = not-true (modeWrong t f s) (h₂ .1);
+      lane = not-true (laneReserved t f s) (h₁ .1);
+    }
+
+-- what binds a refresh that closes at k
+pub record RefreshFree (t : Timing) (s : Timestamps) (k : ℕ) : Type 0 where
+  pub mode : Over k (s .mode) (t .rsc)
+  pub refresh : Over k (getD (s .refs) 0 0) (t .refc)
+  pub read : Over k (s .read) (t .rc)
+  pub write : Over k (s .write) (t .rc)
+  pub window : Over k (getD (s .refs) 7 0) (t .window)
+
+pub refresh-first : (t : Timing) (s : Timestamps) (k : ℕ) → InTime t s k → wordBreach t s k 0xC0000 0x80000 ≡ 0
+refresh-first t s k h = rw (not-overdue t s k h)
+
+pub refresh-closes : (t : Timing) (s : Timestamps) (k : ℕ) → InTime t s k → RefreshFree t s k → wordBreach t s k 0x80000 0x80000 ≡ 0
+refresh-closes t s k h f =
+    rw (not-overdue t s k h, over-near k (s .mode) (t .rsc) (f .mode), over-near k (getD (s .refs) 0 0) (t .refc) (f .refresh), over-near k (s .read) (t .rc) (f .read), over-near k (s .write) (t .rc) (f .write), over-near k (getD (s .refs) 7 0) (t .window) (f .window))
+
+-- what binds a mode pair that closes at k where no read or write has been
+pub record ModeFree (t : Timing) (s : Timestamps) (k first second : ℕ) : Type 0 where
+  pub sound : soundPair t first second ≡ true
+  pub closes : lal second ≡ false
+  pub rda : rda first ≡ true
+  pub read : s .read ≡ 0
+  pub write : s .write ≡ 0
+  pub mode : Over k (s .mode) (t .rsc)
+  pub refresh : Over k (getD (s .refs) 0 0) (t .refc)
+
+pub mode-closes : (t : Timing) (s : Timestamps) (k first second : ℕ) → InTime t s k → ModeFree t s k first second
+    → wordBreach t s k first second ≡ 0
+mode-closes t s k first second h f =
+    let w = sound-tests t first second (f .sound) in
+    rw (w .mode, w .lane)
+    (rw (not-overdue t s k h, w .stray₂, w .pd₂, w .cs, f .closes, f .rda, f .read, f .write, over-near k (s .mode) (t .rsc) (f .mode), over-near k (getD (s .refs) 0 0) (t .refc) (f .refresh)))
+
+-- what binds a read or write that closes at k, with these words
+pub record AccessFree (t : Timing) (s : Timestamps) (k first second : ℕ) : Type 0 where
+  pub sound : soundPair t first second ≡ true
+  pub lal : lal second ≡ true
+  pub ready : notReady (s .extended) (s .regular) (getD (s .refs) 1 0) k ≡ false
+  pub bank : Over k (bankStamp s first) (t .rc)
+  pub read : Over k (s .read) (t .rbd)
+  pub write : Over k (s .write) (t .rbd)
+  pub turn-write : Over k (s .read) (t .rwd + 1)
+  pub turn-read : Over k (s .write) (t .wrd + 1)
+  pub mode : Over k (s .mode) (t .rsc)
+  pub refresh : Over k (getD (s .refs) 0 0) (t .refc)
+
+pub sound-first : (t : Timing) (s : Timestamps) (k first second : ℕ) → InTime t s k → soundPair t first second ≡ true
+    → wordBreach t s k 0xC0000 first ≡ 0
+sound-first t s k first second h e =
+    let w = sound-tests t first second e in
+    rw (not-overdue t s k h, w .stray₁, w .pd₁)
+
+pub access-closes : (t : Timing) (s : Timestamps) (k first second : ℕ) → InTime t s k → AccessFree t s k first second
+    → wordBreach t s k first second ≡ 0
+access-closes t s k first second h f =
+    let w = sound-tests t first second (f .sound) in
+    rw (w .mode, w .lane) (simp (not-overdue t s k h, w .stray₂, w .pd₂, w .cs, f .lal, f .ready, over-near k (bankStamp s first) (t .rc) (f .bank), over-near k (s .read) (t .rbd) (f .read), over-near k (s .write) (t .rbd) (f .write), over-near k (s .read) (t .rwd + 1) (f .turn-write), over-near k (s .write) (t .wrd + 1) (f .turn-read), over-near k (s .mode) (t .rsc) (f .mode), over-near k (getD (s .refs) 0 0) (t .refc) (f .refresh), and-false))

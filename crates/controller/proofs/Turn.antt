@@ -1,0 +1,118 @@
+-- A tick after the start-up, where no pair is open: what opens, or that nothing does, leaves the next refresh in time. Assumes nothing.
+use Prim.Native.Nat.{ℕ, _+_, _-_, _≤_, _<_}
+use mathlib.Core.Path.{_≡_, refl, sym, ap, _∙_}
+use mathlib.Core.Bool.{Bool, true, false, cond, not, and-true, and-false, true≢false, false≢true}
+use mathlib.Core.List.{List, [], _∷_}
+use mathlib.Core.Option.{Option, none, some}
+use mathlib.Core.Logic.{inl, inr}
+use native.Mathlib.Omega.{arith}
+use borrow.Author.Tests.{leb-true, leb-false}
+use lib.Dec.{leb}
+use Rattle.config.specs.declared.Timing.{Timing}
+use Rattle.command.specs.Pins.{high}
+use Rattle.command.specs.Reading.{rda, lal, modeBy, accessOf, operationOf}
+use Rattle.command.specs.Writing.{pairOf}
+use Rattle.command.specs.declared.operation.Request.{Request}
+use Rattle.command.specs.declared.operation.Operation.{Operation}
+use Rattle.command.specs.declared.operation.Operation.the-variants.{Access, Regular, Extended, Refresh}
+use Rattle.command.proofs.WrittenBack.{written-back}
+use Rattle.protocol.specs.History.{ClosedPair, Past}
+use Rattle.protocol.specs.Rules.{wasRead, wasWrite}
+use Rattle.protocol.proofs.Newest.{Ordered, latest}
+use Rattle.protocol.proofs.Summary.{summary}
+use Rattle.protocol.proofs.Words.{ordered-mono, breach-is}
+use Rattle.controller.specs.Laid.{startUp, refreshDue, oldestOf, candidate, breachless, opening}
+use Rattle.controller.proofs.Figures.{Figures}
+use Rattle.controller.proofs.Candidates.{AllFit}
+use Rattle.controller.proofs.Spacings.{InTime, RefreshFree, refresh-first, refresh-closes}
+use Rattle.controller.proofs.InTime.{lastRef, Normal, in-time, next-in-time, refresh-free, Held, after-desl, after-access, after-refresh}
+
+-- the closed pair of an operation that opened at u
+abbrev pub pairAt : Timing → ℕ → Operation → ClosedPair
+pairAt t u o = record { start = u; first = pairOf t o .first; second = pairOf t o .second }
+
+abbrev pub idle : ℕ → List ClosedPair → Past
+idle k ps = record { clock = k; opened = none; pairs = ps }
+
+-- a refresh that nothing holds back opens
+pub refresh-opens : (t : Timing) (ps : List ClosedPair) (k : ℕ) → Ordered k ps → InTime t (summary ps) k → InTime t (summary ps) (k + 1)
+    → RefreshFree t (summary ps) (k + 1) → breachless t (idle k ps) (pairOf t Refresh) ≡ true
+refresh-opens t ps k o now next free =
+    let before = ordered-mono k (k + 1 - 1) (omega arith) ps o in
+    rw
+    (breach-is t none k ps 0x80000 o, breach-is t (some 0x80000) (k + 1) ps 0x80000 (omega arith, before, refl), refresh-first t (summary ps) k now, refresh-closes t (summary ps) (k + 1) next free)
+
+abbrev isAccess : Operation → Bool
+isAccess (Access r) = true
+isAccess (Regular a3) = false
+isAccess (Extended v) = false
+isAccess Refresh = false
+
+-- a pair that reads as an access has LAL
+access-lal : (t : Timing) (f s : ℕ) (r : Request) → operationOf t f s ≡ Access r → lal s ≡ true
+access-lal t f s r e = go (lal s) (rda f) (high 14 s) (ap isAccess e)
+  where
+    go : (l a x : Bool) → isAccess (cond l (Access (accessOf t (not (rda f)) f s)) (cond a (modeBy x s) Refresh)) ≡ true → l ≡ true
+    go true a x h = refl
+    go false true true h = absurd (false≢true h)
+    go false true false h = absurd (false≢true h)
+    go false false x h = absurd (false≢true h)
+
+module _ (t : Timing) (f : Figures t) (ps : List ClosedPair) (k : ℕ) (n : Normal t ps k) where
+  -- how it goes on
+  abbrev pub Next : Option Operation → Type 0
+  Next none = Normal t ps (k + 1)
+  Next (some o) = Normal t (pairAt t k o ∷ ps) (k + 2)
+
+  -- where a refresh is called for
+  due-turn : lastRef ps + t .refi ≤ k + t .rc → Next (opening t (idle k ps) (some Refresh))
+  due-turn due = by (breachless t (idle k ps) (pairOf t Refresh)) refl
+    where
+      held : (a b : Bool) → leb (latest wasRead ps + t .rc) (k + 1) ≡ a → leb (latest wasWrite ps + t .rc) (k + 1) ≡ b
+          → breachless t (idle k ps) (pairOf t Refresh) ≡ false → Held t f ps k n
+      held true true p q e =
+          let read = leb-true (latest wasRead ps + t .rc) (k + 1) p in
+          let write = leb-true (latest wasWrite ps + t .rc) (k + 1) q in
+          let h = next-in-time t f ps k n in
+          let opens = refresh-opens t ps k (n .ordered) (inr (omega arith)) (in-time t f ps k n) (refresh-free t f ps k n due read write) in
+          absurd (true≢false (sym opens ∙ e))
+      held false b p q e = inr (inl (leb-false (latest wasRead ps + t .rc) (k + 1) p))
+      held true false p q e = inr (inr (leb-false (latest wasWrite ps + t .rc) (k + 1) q))
+
+      by : (b : Bool) → breachless t (idle k ps) (pairOf t Refresh) ≡ b → Next (cond b (some Refresh) none)
+      by true e = after-refresh t f ps k n (pairAt t k Refresh) refl refl refl refl refl due
+      by false e =
+          after-desl t f ps k n
+          (held (leb (latest wasRead ps + t .rc) (k + 1)) (leb (latest wasWrite ps + t .rc) (k + 1)) refl refl e)
+
+  -- where none is
+  early-turn : (rs : List Request) → AllFit t rs → k + t .rc < lastRef ps + t .refi → Next (opening t (idle k ps) (oldestOf rs))
+  early-turn [] a h = after-desl t f ps k n (inl h)
+  early-turn (r ∷ rs) a h = by (breachless t (idle k ps) (pairOf t (Access r)))
+    where
+      first : ℕ
+      first = pairOf t (Access r) .first
+
+      second : ℕ
+      second = pairOf t (Access r) .second
+
+      closes : lal second ≡ true
+      closes = access-lal t first second r (written-back t (f .bl) (f .cl) (Access r) (a .0) .1)
+
+      by : (b : Bool) → Next (cond b (some (Access r)) none)
+      by true =
+          after-access t f ps k n (pairAt t k (Access r)) refl (rda first) (rw (closes, and-true (rda first)))
+          (rw (closes, and-true (not (rda first)))) (rw (closes, and-false (rda first))) (rw (closes, and-false (not (rda first)))) h
+      by false = after-desl t f ps k n (inl h)
+
+  -- any tick
+  pub turn : (rs : List Request) → AllFit t rs → startUp ps ≡ none → Next (opening t (idle k ps) (candidate t (idle k ps) rs))
+  turn rs a done = rw done (by (refreshDue t (idle k ps)) refl)
+    where
+      by : (b : Bool) → refreshDue t (idle k ps) ≡ b → Next (opening t (idle k ps) (cond b (some Refresh) (oldestOf rs)))
+      by true e =
+          let h = leb-true (lastRef ps + t .refi - t .rc) k e in
+          due-turn (omega arith)
+      by false e =
+          let h = leb-false (lastRef ps + t .refi - t .rc) k e in
+          early-turn rs a (omega arith)

@@ -1,0 +1,95 @@
+-- The word that the paper lays down for a tick: by the words given before, the requests waiting and the published rules, and not by
+-- what a controller remembers.
+use Prim.Native.Nat.{ℕ, _+_, _-_}
+use mathlib.Core.Bool.{Bool, false, cond, _&&_}
+use mathlib.Core.List.{List, [], _∷_, _++_}
+use mathlib.Core.Option.{Option, none, some}
+use lib.ListN.{length, getD}
+use lib.Dec.{eqb, leb}
+use Rattle.config.specs.declared.Timing.{Timing}
+use Rattle.command.specs.Writing.{pairOf}
+use Rattle.command.specs.declared.operation.Request.{Request}
+use Rattle.command.specs.declared.operation.Pair.{Pair}
+use Rattle.command.specs.declared.operation.Operation.{Operation}
+use Rattle.command.specs.declared.operation.Operation.the-variants.{Access, Regular, Extended, Refresh}
+use Rattle.protocol.specs.History.{ClosedPair, Past, nothing, extend}
+use Rattle.protocol.specs.Rules.{closings, wasExtended, wasRegular, wasRefresh, breachAt}
+
+-- how far a list of calls has come: the words given, as a past; what the open pair stands for; the requests waiting, oldest first
+pub record Course : Type 0 where
+  pub past : Past
+  pub opened : Option Operation
+  pub waiting : List Request
+
+-- "A fresh controller has clock 0, no open pair, nothing waiting and no event remembered."
+abbrev pub start : Course
+start = record { past = nothing; opened = none; waiting = [] }
+
+-- the first that there is
+abbrev pub orElse : Option Operation → Option Operation → Option Operation
+orElse none other = other
+orElse (some o) other = some o
+
+-- "the next of extended MRS, regular MRS, REF, REF not yet done". "MRS words have the free bits low."
+abbrev pub startUp : List ClosedPair → Option Operation
+startUp ps =
+    cond (leb 1 (length (closings wasExtended ps)))
+    (cond (leb 1 (length (closings wasRegular ps))) (cond (leb 2 (length (closings wasRefresh ps))) none (some Refresh)) (some (Regular false)))
+    (some (Extended 0))
+
+-- "else, from clock r + D − RC on, r the last REF word, a refresh"
+abbrev pub refreshDue : Timing → Past → Bool
+refreshDue t p = leb (getD (closings wasRefresh (p .pairs)) 0 0 + t .refi - t .rc) (p .clock)
+
+-- "else the oldest request"
+abbrev pub oldestOf : List Request → Option Operation
+oldestOf [] = none
+oldestOf (r ∷ rs) = some (Access r)
+
+-- what comes next where no pair is open
+abbrev pub candidate : Timing → Past → List Request → Option Operation
+candidate t p waiting = orElse (startUp (p .pairs)) (cond (refreshDue t p) (some Refresh) (oldestOf waiting))
+
+-- "A pair opens only if its two words would breach nothing, otherwise DESL goes out."
+abbrev pub breachless : Timing → Past → Pair → Bool
+breachless t p w = eqb (breachAt t p (w .first)) 0 && eqb (breachAt t (extend p (w .first)) (w .second)) 0
+
+abbrev pub opening : Timing → Past → Option Operation → Option Operation
+opening t p none = none
+opening t p (some o) = cond (breachless t p (pairOf t o)) (some o) none
+
+-- what opens at the next tick, if no pair is open
+abbrev pub opens : Timing → Course → Option Operation
+opens t c = opening t (c .past) (candidate t (c .past) (c .waiting))
+
+abbrev pub firstWord : Timing → Option Operation → ℕ
+firstWord t none = 0xC0000
+firstWord t (some o) = pairOf t o .first
+
+-- "A request waits until its closing word is out."
+abbrev pub leave : Operation → List Request → List Request
+leave (Access q) [] = []
+leave (Access q) (r ∷ rs) = rs
+leave (Regular a3) rs = rs
+leave (Extended v) rs = rs
+leave Refresh rs = rs
+
+-- a tick's word, and how far the calls have come with it
+pub record Ticked : Type 0 where
+  pub word : ℕ
+  pub after : Course
+
+abbrev pub giving : ℕ → Course → Option Operation → List Request → Ticked
+giving w c opened waiting = record { word = w; after = record { past = extend (c .past) w; opened = opened; waiting = waiting } }
+
+-- "Tick gives the word for its clock: the closing word if a pair is open", and otherwise the first word of the pair that opens, or DESL
+abbrev pub tickBy : Option Operation → Timing → Course → Ticked
+tickBy (some o) t c = giving (pairOf t o .second) c none (leave o (c .waiting))
+tickBy none t c = let o = opens t c in giving (firstWord t o) c o (c .waiting)
+
+abbrev pub tick : Timing → Course → Ticked
+tick t c = tickBy (c .opened) t c
+
+-- after an accepted offer
+abbrev pub offered : Course → Request → Course
+offered c r = record { past = c .past; opened = c .opened; waiting = c .waiting ++ (r ∷ []) }

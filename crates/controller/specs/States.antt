@@ -1,0 +1,16 @@
+-- The states of a controller.
+use mathlib.Core.Bool.{false}
+use lib.ListN.{replicate}
+use Rattle.config.specs.declared.Config.{Config}
+use Rattle.command.specs.declared.operation.Request.{Request}
+use Rattle.protocol.specs.Stamps.{never}
+use Rattle.controller.specs.declared.Controller.{Controller}
+use Rattle.controller.specs.declared.OpenPair.the-variants.{Nothing}
+
+-- a place where no request waits
+abbrev pub vacant : Request
+vacant = record { write = false; bank = 0; row = 0; column = 0; lower = 0; upper = 0 }
+
+-- "A fresh controller has clock 0, no open pair, nothing waiting and no event remembered."
+abbrev pub fresh : Config → Controller
+fresh c = record { config = c; clock = 0; opened = Nothing; stamps = never; waiting = replicate 16 vacant; count = 0 }
