@@ -6,7 +6,7 @@ use mathlib.Core.Logic.{_⊎_}
 use native.Mathlib.Omega.{arith}
 use native.Mathlib.Nat.{le-div-iff-mul-le, div-mul-le-self, le-trans}
 use lib.Dec.{eqb}
-use Rattle.config.specs.Sheet.{derived}
+use Rattle.config.specs.Sheet.{rcOf, spacingOf, derived}
 use Rattle.config.specs.declared.Config.{Config}
 use Rattle.config.specs.declared.Timing.{Timing}
 use Rattle.config.proofs.Accepted.{Accepted}
@@ -25,6 +25,7 @@ pub record Figures (t : Timing) : Type 0 where
   pub any-bank : t .rbd ≤ t .spacing
   pub read-write : t .rwd + 1 ≤ t .spacing
   pub write-read : t .wrd + 1 ≤ t .spacing
+  pub spacing : t .spacing ≤ 8
 
 rc-bounds : (b : Bool) → (5 ≤ cond b 6 5) × (cond b 6 5 ≤ 6)
 rc-bounds true = (omega arith, omega arith)
@@ -33,6 +34,9 @@ rc-bounds false = (omega arith, omega arith)
 -- a larger number has no smaller quotient
 quotients : (a b p : ℕ) → 1 ≤ p → a ≤ b → a / p ≤ b / p
 quotients a b p h le = le-div-iff-mul-le {k = p} (omega arith) .1 (le-trans (div-mul-le-self a p) le)
+
+spacing-bound : (rc rbd rwd wrd : ℕ) → rc ≤ 6 → rbd ≤ 7 → rwd ≤ 7 → wrd ≤ 7 → spacingOf rc rbd rwd wrd ≤ 8
+spacing-bound rc rbd rwd wrd a b c d = omega arith
 
 pub figures : (c : Config) → Accepted c → Figures (derived c)
 figures c a =
@@ -53,4 +57,5 @@ figures c a =
       any-bank = omega arith;
       read-write = omega arith;
       write-read = omega arith;
+      spacing = spacing-bound (rcOf (c .cl)) (c .rbd .0) (c .rwd .0) (c .wrd .0) (rc-bounds (eqb (c .cl) 5) .1) (n .rbd .1) (n .rwd .1) (n .wrd .1);
     }

@@ -9,7 +9,7 @@ use native.Mathlib.Omega.{arith}
 use lib.ListN.{getD}
 use Rattle.config.specs.declared.Timing.{Timing}
 use Rattle.protocol.specs.History.{ClosedPair}
-use Rattle.protocol.specs.Rules.{closings, wasRead, wasWrite, wasMode, wasRefresh}
+use Rattle.protocol.specs.Rules.{closings, oldest, wasRead, wasWrite, wasMode, wasRegular, wasExtended, wasRefresh}
 use Rattle.protocol.proofs.Newest.{Ordered, latest}
 use Rattle.protocol.proofs.Summary.{summary}
 use Rattle.protocol.proofs.Words.{ordered-mono}
@@ -26,9 +26,17 @@ abbrev pub Timely : Timing → List ClosedPair → ℕ → Type 0
 Timely t ps k =
     (k + t .rc ≤ lastRef ps + t .refi) ⊎ ((k + 1 ≤ latest wasRead ps + t .rc) ⊎ (k + 1 ≤ latest wasWrite ps + t .rc))
 
+-- what rule 6 asks for stands, with the first extended MRS word at clock 1
+pub record Ready (ps : List ClosedPair) : Type 0 where
+  pub extended : oldest (closings wasExtended ps) ≡ 1
+  pub regular : 1 ≤ latest wasRegular ps
+  pub refresh : 1 ≤ lastRef ps
+  pub second : 1 ≤ getD (closings wasRefresh ps) 1 0
+
 -- what holds after the start-up at a clock k where no pair is open
 pub record Normal (t : Timing) (ps : List ClosedPair) (k : ℕ) : Type 0 where
   pub ordered : Ordered k ps
+  pub ready : Ready ps
   pub last : lastRef ps < k
   -- mode pairs are of the start-up alone
   pub mode : latest wasMode ps + t .rsc ≤ 31
@@ -77,6 +85,7 @@ module _ (t : Timing) (f : Figures t) (ps : List ClosedPair) (k : ℕ) (n : Norm
       let l = n .last in
       record {
         ordered = ordered-mono k (k + 1) (omega arith) ps (n .ordered);
+        ready = n .ready;
         last = omega arith;
         mode = n .mode;
         read = n .read;
@@ -88,6 +97,16 @@ module _ (t : Timing) (f : Figures t) (ps : List ClosedPair) (k : ℕ) (n : Norm
     ordered : Ordered (k + 2) (p ∷ ps)
     ordered = rw at (omega arith, n .ordered)
 
+    -- neither a mode pair nor a refresh
+    still-ready : wasMode p ≡ false → wasRefresh p ≡ false → Ready (p ∷ ps)
+    still-ready m e =
+        record {
+          extended = rw m (n .ready .extended);
+          regular = rw m (n .ready .regular);
+          refresh = rw e (n .ready .refresh);
+          second = rw e (n .ready .second);
+        }
+
     -- a read or write, where no refresh is called for
     pub after-access : (read : Bool) → wasRead p ≡ read → wasWrite p ≡ not read → wasMode p ≡ false → wasRefresh p ≡ false
         → k + t .rc < lastRef ps + t .refi → Normal t (p ∷ ps) (k + 2)
@@ -96,6 +115,7 @@ module _ (t : Timing) (f : Figures t) (ps : List ClosedPair) (k : ℕ) (n : Norm
         let c = f .rc .0 in
         record {
           ordered = ordered;
+          ready = still-ready m e;
           last = rw e (omega arith);
           mode = rw m (n .mode);
           read = rw (e, r, at) (omega arith);
@@ -107,6 +127,7 @@ module _ (t : Timing) (f : Figures t) (ps : List ClosedPair) (k : ℕ) (n : Norm
         let c = f .rc .0 in
         record {
           ordered = ordered;
+          ready = still-ready m e;
           last = rw e (omega arith);
           mode = rw m (n .mode);
           read = rw (e, r) (n .read);
@@ -125,6 +146,13 @@ module _ (t : Timing) (f : Figures t) (ps : List ClosedPair) (k : ℕ) (n : Norm
         let q = n .write in
         record {
           ordered = ordered;
+          ready =
+              record {
+                extended = rw m (n .ready .extended);
+                regular = rw m (n .ready .regular);
+                refresh = rw e (omega arith);
+                second = rw e (n .ready .refresh);
+              };
           last = rw (e, at) (omega arith);
           mode = rw m (n .mode);
           read = rw (e, r, at) (omega arith);

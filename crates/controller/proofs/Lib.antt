@@ -1,4 +1,4 @@
--- The words laid down keep every rule. Read Keeps last: it has the theorem.
+-- The words laid down keep every rule (Keeps), and each request opens within its bound (Bounds); the rest leads up to these two.
 pub mod Figures
 pub mod Candidates
 pub mod Spacings
@@ -8,3 +8,9 @@ pub mod Turn
 pub mod StartUp
 pub mod Phases
 pub mod Keeps
+pub mod Access
+pub mod Prompt
+pub mod Soonest
+pub mod Punctual
+pub mod Offers
+pub mod Bounds

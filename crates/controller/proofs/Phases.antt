@@ -71,6 +71,13 @@ module _ (t : Timing) (f : Figures t) where
       settled (rw (pins t f .closes, pins t f .ba0))
       (record {
         ordered = (omega arith, (omega arith, (omega arith, (omega arith, tt))));
+        ready =
+            record {
+              extended = rw (pins t f .closes, pins t f .ba0);
+              regular = rw (pins t f .closes, pins t f .ba0) (omega arith);
+              refresh = omega arith;
+              second = omega arith;
+            };
         last = omega arith;
         mode = rw (pins t f .closes) (omega arith);
         read = rw (pins t f .closes) (omega arith);

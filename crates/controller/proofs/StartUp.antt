@@ -10,7 +10,7 @@ use borrow.Author.Tests.{leb-true, leb-false}
 use lib.Dec.{leb}
 use Rattle.config.specs.declared.Timing.{Timing}
 use Rattle.command.specs.Pins.{high}
-use Rattle.command.specs.Reading.{opens, rda, lal, modeBy, accessOf, operationOf, soundPair}
+use Rattle.command.specs.Reading.{rda, lal, modeBy, accessOf, operationOf, soundPair}
 use Rattle.command.specs.Writing.{pairOf}
 use Rattle.command.specs.declared.operation.Request.{Request}
 use Rattle.command.specs.declared.operation.Operation.{Operation}

@@ -11,7 +11,7 @@ use lib.Dec.{leb}
 use Rattle.config.specs.declared.Timing.{Timing}
 use Rattle.command.specs.Pins.{high}
 use Rattle.command.specs.Reading.{rda, lal, modeBy, accessOf, operationOf}
-use Rattle.command.specs.Writing.{pairOf}
+use Rattle.command.specs.Writing.{pairOf, requestFits}
 use Rattle.command.specs.declared.operation.Request.{Request}
 use Rattle.command.specs.declared.operation.Operation.{Operation}
 use Rattle.command.specs.declared.operation.Operation.the-variants.{Access, Regular, Extended, Refresh}
@@ -49,7 +49,7 @@ isAccess (Extended v) = false
 isAccess Refresh = false
 
 -- a pair that reads as an access has LAL
-access-lal : (t : Timing) (f s : ℕ) (r : Request) → operationOf t f s ≡ Access r → lal s ≡ true
+pub access-lal : (t : Timing) (f s : ℕ) (r : Request) → operationOf t f s ≡ Access r → lal s ≡ true
 access-lal t f s r e = go (lal s) (rda f) (high 14 s) (ap isAccess e)
   where
     go : (l a x : Bool) → isAccess (cond l (Access (accessOf t (not (rda f)) f s)) (cond a (modeBy x s) Refresh)) ≡ true → l ≡ true
@@ -58,32 +58,38 @@ access-lal t f s r e = go (lal s) (rda f) (high 14 s) (ap isAccess e)
     go false true false h = absurd (false≢true h)
     go false false x h = absurd (false≢true h)
 
+pub access-closes-with-lal : (t : Timing) (f : Figures t) (r : Request) → requestFits t r ≡ true → lal (pairOf t (Access r) .second) ≡ true
+access-closes-with-lal t f r fits =
+    let w = pairOf t (Access r) in
+    access-lal t (w .first) (w .second) r (written-back t (f .bl) (f .cl) (Access r) fits .1)
+
 module _ (t : Timing) (f : Figures t) (ps : List ClosedPair) (k : ℕ) (n : Normal t ps k) where
   -- how it goes on
   abbrev pub Next : Option Operation → Type 0
   Next none = Normal t ps (k + 1)
   Next (some o) = Normal t (pairAt t k o ∷ ps) (k + 2)
 
-  -- where a refresh is called for
-  due-turn : lastRef ps + t .refi ≤ k + t .rc → Next (opening t (idle k ps) (some Refresh))
-  due-turn due = by (breachless t (idle k ps) (pairOf t Refresh)) refl
+  -- a refresh that is called for and does not open is held back
+  pub refresh-held : lastRef ps + t .refi ≤ k + t .rc → breachless t (idle k ps) (pairOf t Refresh) ≡ false → Held t f ps k n
+  refresh-held due e = by (leb (latest wasRead ps + t .rc) (k + 1)) (leb (latest wasWrite ps + t .rc) (k + 1)) refl refl
     where
-      held : (a b : Bool) → leb (latest wasRead ps + t .rc) (k + 1) ≡ a → leb (latest wasWrite ps + t .rc) (k + 1) ≡ b
-          → breachless t (idle k ps) (pairOf t Refresh) ≡ false → Held t f ps k n
-      held true true p q e =
+      by : (a b : Bool) → leb (latest wasRead ps + t .rc) (k + 1) ≡ a → leb (latest wasWrite ps + t .rc) (k + 1) ≡ b → Held t f ps k n
+      by true true p q =
           let read = leb-true (latest wasRead ps + t .rc) (k + 1) p in
           let write = leb-true (latest wasWrite ps + t .rc) (k + 1) q in
           let h = next-in-time t f ps k n in
           let opens = refresh-opens t ps k (n .ordered) (inr (omega arith)) (in-time t f ps k n) (refresh-free t f ps k n due read write) in
           absurd (true≢false (sym opens ∙ e))
-      held false b p q e = inr (inl (leb-false (latest wasRead ps + t .rc) (k + 1) p))
-      held true false p q e = inr (inr (leb-false (latest wasWrite ps + t .rc) (k + 1) q))
+      by false b p q = inr (inl (leb-false (latest wasRead ps + t .rc) (k + 1) p))
+      by true false p q = inr (inr (leb-false (latest wasWrite ps + t .rc) (k + 1) q))
 
+  -- where a refresh is called for
+  due-turn : lastRef ps + t .refi ≤ k + t .rc → Next (opening t (idle k ps) (some Refresh))
+  due-turn due = by (breachless t (idle k ps) (pairOf t Refresh)) refl
+    where
       by : (b : Bool) → breachless t (idle k ps) (pairOf t Refresh) ≡ b → Next (cond b (some Refresh) none)
       by true e = after-refresh t f ps k n (pairAt t k Refresh) refl refl refl refl refl due
-      by false e =
-          after-desl t f ps k n
-          (held (leb (latest wasRead ps + t .rc) (k + 1)) (leb (latest wasWrite ps + t .rc) (k + 1)) refl refl e)
+      by false e = after-desl t f ps k n (refresh-held due e)
 
   -- where none is
   early-turn : (rs : List Request) → AllFit t rs → k + t .rc < lastRef ps + t .refi → Next (opening t (idle k ps) (oldestOf rs))
@@ -93,11 +99,8 @@ module _ (t : Timing) (f : Figures t) (ps : List ClosedPair) (k : ℕ) (n : Norm
       first : ℕ
       first = pairOf t (Access r) .first
 
-      second : ℕ
-      second = pairOf t (Access r) .second
-
-      closes : lal second ≡ true
-      closes = access-lal t first second r (written-back t (f .bl) (f .cl) (Access r) (a .0) .1)
+      closes : lal (pairOf t (Access r) .second) ≡ true
+      closes = access-closes-with-lal t f r (a .0)
 
       by : (b : Bool) → Next (cond b (some (Access r)) none)
       by true =
