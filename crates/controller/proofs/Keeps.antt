@@ -20,7 +20,7 @@ use Rattle.protocol.specs.Rules.{breachAt}
 use Rattle.protocol.proofs.Newest.{Ordered}
 use Rattle.protocol.proofs.Summary.{summary}
 use Rattle.protocol.proofs.Words.{ordered-mono, breach-is}
-use Rattle.controller.specs.Laid.{Course, start, candidate, breachless, opening, firstWord, leave, giving, Ticked, tick, offered}
+use Rattle.controller.specs.Laid.{Course, start, candidate, breachless, opening, firstWord, leave, giving, Advance, tick, offered}
 use Rattle.controller.proofs.Figures.{Figures}
 use Rattle.controller.proofs.Candidates.{AllFit, Opens, candidate-opens}
 use Rattle.controller.proofs.Spacings.{InTime, not-overdue}
@@ -69,7 +69,7 @@ module _ (t : Timing) (f : Figures t) where
     within : (ps : List ClosedPair) (u : ℕ) (o : Operation) (rs : List Request) → c ≡ inPair u o ps rs → Ordered u ps
         → Phase t f (pairAt t u o ∷ ps) (u + 2) → breachAt t (half u o ps) (pairOf t o .second) ≡ 0 → AllFit t rs → Sound c
 
-  abbrev Keeps : Past → Ticked → Type 0
+  abbrev Keeps : Past → Advance → Type 0
   Keeps p r = (breachAt t p (r .word) ≡ 0) × Sound (r .after)
 
   phase-in-time : (ps : List ClosedPair) (k : ℕ) → Phase t f ps k → InTime t (summary ps) k

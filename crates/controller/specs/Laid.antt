@@ -75,19 +75,19 @@ leave (Extended v) rs = rs
 leave Refresh rs = rs
 
 -- a tick's word, and how far the calls have come with it
-pub record Ticked : Type 0 where
+pub record Advance : Type 0 where
   pub word : ℕ
   pub after : Course
 
-abbrev pub giving : ℕ → Course → Option Operation → List Request → Ticked
+abbrev pub giving : ℕ → Course → Option Operation → List Request → Advance
 giving w c opened waiting = record { word = w; after = record { past = extend (c .past) w; opened = opened; waiting = waiting } }
 
 -- "Tick gives the word for its clock: the closing word if a pair is open", and otherwise the first word of the pair that opens, or DESL
-abbrev pub tickBy : Option Operation → Timing → Course → Ticked
+abbrev pub tickBy : Option Operation → Timing → Course → Advance
 tickBy (some o) t c = giving (pairOf t o .second) c none (leave o (c .waiting))
 tickBy none t c = let o = opens t c in giving (firstWord t o) c o (c .waiting)
 
-abbrev pub tick : Timing → Course → Ticked
+abbrev pub tick : Timing → Course → Advance
 tick t c = tickBy (c .opened) t c
 
 -- after an accepted offer

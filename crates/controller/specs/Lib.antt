@@ -2,3 +2,4 @@
 pub mod Laid
 pub mod Cases
 pub mod States
+pub mod Steps

@@ -1,6 +1,7 @@
 // The controller: it keeps requests waiting and gives the words of its ticks.
 use command::Request;
 use config::Config;
+use config::Refusal;
 use protocol::Timestamps;
 ghost use mathlib.Core.Path.{_≡_};
 ghost use Rattle.controller.specs.States.{fresh};
@@ -24,6 +25,24 @@ pub struct Controller {
     // Oldest first; every place past the count is vacant.
     pub waiting: [Request; 16],
     pub count: u32,
+}
+
+// What a call comes to.
+pub enum CallAnswer {
+    Accepted,
+    Refused(Refusal),
+}
+
+pub struct Offered {
+    pub answer: CallAnswer,
+    pub controller: Controller,
+}
+
+// A refused tick gives word 0.
+pub struct Ticked {
+    pub answer: CallAnswer,
+    pub word: u32,
+    pub controller: Controller,
 }
 
 // A place where no request waits.

@@ -1,0 +1,185 @@
+-- What each call of a controller answers, and the state that it leaves, for every state there is.
+use Prim.Native.Nat.{ℕ, _+_, _-_}
+use mathlib.Core.Bool.{Bool, true, false, cond, not, _&&_, _||_}
+use mathlib.Core.List.{List, [], _∷_, _++_}
+use lib.ListN.{getD, set, take, drop}
+use lib.Dec.{eqb, leb, ltb}
+use Rattle.config.specs.Outcome.{Outcome, value, refused}
+use Rattle.config.specs.Numbers.{refusalNumber}
+use Rattle.config.specs.Sheet.{timingOf}
+use Rattle.config.specs.declared.Timing.{Timing}
+use Rattle.command.specs.Writing.{pairOf, requestFits}
+use Rattle.command.specs.declared.operation.Request.{Request}
+use Rattle.command.specs.declared.operation.Pair.{Pair}
+use Rattle.command.specs.declared.operation.Operation.the-variants.{Access, Regular as RegularMode, Extended as ExtendedMode, Refresh as Refreshing}
+use Rattle.protocol.specs.Stamps.{wordBreach, remembered}
+use Rattle.protocol.specs.Steps.{clockFits}
+use Rattle.protocol.specs.declared.stamps.Timestamps.{Timestamps}
+use Rattle.controller.specs.States.{vacant}
+use Rattle.controller.specs.declared.Controller.{Controller}
+use Rattle.controller.specs.declared.OpenPair.{OpenPair}
+use Rattle.controller.specs.declared.OpenPair.the-variants.{Nothing, Extended, Regular, Refresh, Oldest}
+use Rattle.controller.specs.declared.CallAnswer.{CallAnswer}
+use Rattle.controller.specs.declared.CallAnswer.the-variants.{Accepted, Refused}
+use Rattle.controller.specs.declared.Offered.{Offered}
+use Rattle.controller.specs.declared.Ticked.{Ticked}
+
+-- what an answer is in the paper's terms
+abbrev pub callOutcome : CallAnswer → Outcome (Unit {0})
+callOutcome Accepted = value tt
+callOutcome (Refused r) = refused (refusalNumber r)
+
+-- an offer's answer and the state that it leaves; a tick's, with the word that it gives
+pub record Offer : Type 0 where
+  pub outcome : Outcome (Unit {0})
+  pub after : Controller
+
+abbrev pub offered : Offered → Offer
+offered r = record { outcome = callOutcome (r .answer); after = r .controller }
+
+pub record Tick : Type 0 where
+  pub outcome : Outcome (Unit {0})
+  pub word : ℕ
+  pub after : Controller
+
+abbrev pub ticked : Ticked → Tick
+ticked r = record { outcome = callOutcome (r .answer); word = r .word; after = r .controller }
+
+-- the requests that wait, oldest first
+abbrev pub held : Controller → List Request
+held s = take (s .count) (s .waiting)
+
+abbrev pub allFit : Timing → List Request → Bool
+allFit t [] = true
+allFit t (r ∷ rs) = requestFits t r && allFit t rs
+
+-- the two words of an open pair, from what it stands for; DESL where none is open
+abbrev pub wordsOf : Timing → OpenPair → Request → Pair
+wordsOf t Nothing oldest = record { first = 0xC0000; second = 0xC0000 }
+wordsOf t Extended oldest = pairOf t (ExtendedMode 0)
+wordsOf t Regular oldest = pairOf t (RegularMode false)
+wordsOf t Refresh oldest = pairOf t Refreshing
+wordsOf t Oldest oldest = pairOf t (Access oldest)
+
+abbrev pub isOpen : OpenPair → Bool
+isOpen Nothing = false
+isOpen Extended = true
+isOpen Regular = true
+isOpen Refresh = true
+isOpen Oldest = true
+
+abbrev pub ofOldest : OpenPair → Bool
+ofOldest Nothing = false
+ofOldest Extended = false
+ofOldest Regular = false
+ofOldest Refresh = false
+ofOldest Oldest = true
+
+-- "19 its clock is above 16,777,216, it remembers an event … not before its clock, more than sixteen wait, a waiting field is out of
+-- range, or a controller's open read or write pair is of no waiting request." The first word of an open pair is an event too: it
+-- stands one clock back, so at clock 0 no pair is open.
+abbrev pub stateFits : Timing → Controller → Bool
+stateFits t s =
+    clockFits (s .clock) 0xC0000 (s .stamps)
+    && not (eqb (s .clock) 0 && isOpen (s .opened))
+    && leb (s .count) 16
+    && allFit t (held s)
+    && not (ofOldest (s .opened) && eqb (s .count) 0)
+
+-- an accepted request goes behind those that wait
+abbrev pub joined : Controller → Request → Controller
+joined s r =
+    record {
+      config = s .config;
+      clock = s .clock;
+      opened = s .opened;
+      stamps = s .stamps;
+      waiting = set (s .waiting) (s .count) r;
+      count = s .count + 1;
+    }
+
+abbrev pub notOffered : Controller → ℕ → Offer
+notOffered s n = record { outcome = refused n; after = s }
+
+-- "Offer …: 26 a field out of range; offer then 27 sixteen wait. Unchanged". The sheet's refusals and 19 come first.
+abbrev pub offerBy : Outcome Timing → Controller → Request → Offer
+offerBy (refused n) s r = notOffered s n
+offerBy (value t) s r =
+    cond (stateFits t s)
+    (cond (requestFits t r) (cond (ltb (s .count) 16) (record { outcome = value tt; after = joined s r }) (notOffered s 27)) (notOffered s 26))
+    (notOffered s 19)
+
+abbrev pub offerOf : Controller → Request → Offer
+offerOf s r = offerBy (timingOf (s .config)) s r
+
+-- what comes next where no pair is open: "the next of extended MRS, regular MRS, REF, REF not yet done; else, from clock r + D − RC on, …
+-- a refresh; else the oldest request"
+abbrev pub nextPair : Timing → Timestamps → ℕ → ℕ → OpenPair
+nextPair t s clock count =
+    cond (eqb (s .extended) 0) Extended
+    (cond (eqb (s .regular) 0) Regular
+    (cond (eqb (getD (s .refs) 1 0) 0 || leb (getD (s .refs) 0 0 + t .refi) (clock + t .rc)) Refresh
+    (cond (eqb count 0) Nothing Oldest)))
+
+-- "A pair opens only if its two words would breach nothing"
+abbrev pub passes : Timing → Timestamps → ℕ → Pair → Bool
+passes t s clock w = eqb (wordBreach t s clock 0xC0000 (w .first)) 0 && eqb (wordBreach t s (clock + 1) (w .first) (w .second)) 0
+
+abbrev pub oldest : Controller → Request
+oldest s = getD (s .waiting) 0 vacant
+
+abbrev pub opensNext : Timing → Controller → OpenPair
+opensNext t s =
+    let next = nextPair t (s .stamps) (s .clock) (s .count) in
+    cond (passes t (s .stamps) (s .clock) (wordsOf t next (oldest s))) next Nothing
+
+-- a tick with no pair open: the first word of the pair that opens, "otherwise DESL"
+abbrev pub starting : Timing → Controller → Tick
+starting t s =
+    let next = opensNext t s in
+    record {
+      outcome = value tt;
+      word = wordsOf t next (oldest s) .first;
+      after =
+          record {
+            config = s .config;
+            clock = s .clock + 1;
+            opened = next;
+            stamps = s .stamps;
+            waiting = s .waiting;
+            count = s .count;
+          };
+    }
+
+-- one with a pair open: "the closing word". "A request waits until its closing word is out."
+abbrev pub closing : Timing → Controller → Tick
+closing t s =
+    let w = wordsOf t (s .opened) (oldest s) in
+    record {
+      outcome = value tt;
+      word = w .second;
+      after =
+          record {
+            config = s .config;
+            clock = s .clock + 1;
+            opened = Nothing;
+            stamps = remembered (s .stamps) (s .clock) (w .first) (w .second);
+            waiting = cond (ofOldest (s .opened)) (drop 1 (s .waiting) ++ (vacant ∷ [])) (s .waiting);
+            count = cond (ofOldest (s .opened)) (s .count - 1) (s .count);
+          };
+    }
+
+-- "A tick refused by any number leaves the state unchanged and gives word 0"
+abbrev pub notTicked : Controller → ℕ → Tick
+notTicked s n = record { outcome = refused n; word = 0; after = s }
+
+-- "Tick: 24 as above." The sheet's refusals and 19 come first.
+abbrev pub tickBy : Outcome Timing → Controller → Tick
+tickBy (refused n) s = notTicked s n
+tickBy (value t) s =
+    cond (stateFits t s)
+    (cond (ltb (s .clock) 16777216) (cond (isOpen (s .opened)) (closing t s) (starting t s)) (notTicked s 24))
+    (notTicked s 19)
+
+abbrev pub tickOf : Controller → Tick
+tickOf s = tickBy (timingOf (s .config)) s
