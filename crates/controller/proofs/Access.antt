@@ -28,7 +28,7 @@ use Rattle.controller.specs.Laid.{breachless}
 use Rattle.controller.proofs.Figures.{Figures}
 use Rattle.controller.proofs.Spacings.{AccessFree, sound-tests, sound-first, access-closes}
 use Rattle.controller.proofs.InTime.{lastRef, Normal, in-time, next-in-time}
-use Rattle.controller.proofs.Turn.{idle, access-lal}
+use Rattle.controller.proofs.Turn.{idle, closes-with-lal}
 
 -- the last access of a bank is no later than the last read or the last write
 bank-latest : (b k : ℕ) (ps : List ClosedPair) → Ordered k ps
@@ -88,7 +88,7 @@ module _ (t : Timing) (f : Figures t) (ps : List ClosedPair) (k : ℕ) (n : Norm
         let mode = n .mode in
         record {
           sound = w .0;
-          lal = access-lal t first second r (w .1);
+          lal = closes-with-lal t f (Access r) fits;
           ready = is-ready ready;
           bank =
               rw (get-bank (λ b. latest (ofBank b) ps) (bankOf first) (bank-bound first))

@@ -21,7 +21,7 @@ use Rattle.controller.specs.Laid.{candidate, opening}
 use Rattle.controller.proofs.Figures.{Figures}
 use Rattle.controller.proofs.Candidates.{AllFit}
 use Rattle.controller.proofs.InTime.{lastRef, Normal}
-use Rattle.controller.proofs.Turn.{pairAt, idle, access-closes-with-lal}
+use Rattle.controller.proofs.Turn.{pairAt, idle, closes-with-lal}
 use Rattle.controller.proofs.StartUp.{extended, regular, pins, regular-turn, first-refresh-turn, second-refresh-turn}
 use Rattle.controller.proofs.Phases.{Phase, begin, after-extended, after-regular, after-refresh, settled}
 use Rattle.controller.proofs.Prompt.{Close, sooner, later-ref}
@@ -51,7 +51,7 @@ module _ (t : Timing) (f : Figures t) (ps : List ClosedPair) (k : ℕ) where
         closes = subst (AllFit t) (h .1 .1) a .0
 
         no-refresh : wasRefresh (pairAt t k (Access r)) ≡ false
-        no-refresh = rw (access-closes-with-lal t f r closes, and-false (not (rda (pairOf t (Access r) .first))))
+        no-refresh = rw (closes-with-lal t f (Access r) closes, and-false (not (rda (pairOf t (Access r) .first))))
 
         oldest : (Bs : List ℕ) → Same (r ∷ h .1 .0) Bs → Punctual t ps k Bs → OldestOpens r Bs
         oldest [] s q = absurd s

@@ -2,7 +2,7 @@
 use Prim.Native.Nat.{_≤_}
 use mathlib.Core.Path.{_≡_, refl}
 use mathlib.Core.Bool.{Bool, true, false, cond}
-use mathlib.Core.List.{List, [], _∷_}
+use mathlib.Core.List.{List, [], _∷_, _++_}
 use mathlib.Core.Option.{Option, none, some}
 use mathlib.Core.Logic.{_⊎_}
 use lib.ListN.{length}
@@ -18,53 +18,47 @@ use Rattle.command.proofs.WrittenBack.{written-back}
 use Rattle.protocol.specs.History.{Past}
 use Rattle.protocol.specs.Rules.{closings, wasExtended, wasRegular, wasRefresh}
 use Rattle.controller.specs.Laid.{orElse, startUp, refreshDue, oldestOf, candidate}
+use Rattle.controller.specs.Runs.{requestOf}
+use Rattle.controller.proofs.Figures.{Figures}
 
 -- every waiting request is in range
 abbrev pub AllFit : Timing → List Request → Type 0
 AllFit t [] = Unit {0}
 AllFit t (r ∷ rs) = (requestFits t r ≡ true) × AllFit t rs
 
-abbrev Fits : Timing → Option Operation → Type 0
-Fits t none = Unit {0}
-Fits t (some o) = operationFits t o ≡ true
+-- in range; and where it is a read or write, that of the oldest request
+abbrev pub Due : Timing → List Request → Option Operation → Type 0
+Due t rs none = Unit {0}
+Due t rs (some o) = (operationFits t o ≡ true) × ((qs : List Request) × (rs ≡ requestOf o ++ qs))
 
-or-else-fits : (t : Timing) (a b : Option Operation) → Fits t a → Fits t b → Fits t (orElse a b)
-or-else-fits t none b f g = g
-or-else-fits t (some o) b f g = f
+or-else-due : (t : Timing) (rs : List Request) (a b : Option Operation) → Due t rs a → Due t rs b → Due t rs (orElse a b)
+or-else-due t rs none b f g = g
+or-else-due t rs (some o) b f g = f
 
-start-up-fits : (t : Timing) (extended regular refreshed : Bool)
-    → Fits t (cond extended (cond regular (cond refreshed none (some Refresh)) (some (Regular false))) (some (Extended 0)))
-start-up-fits t false b d = refl
-start-up-fits t true false d = refl
-start-up-fits t true true false = refl
-start-up-fits t true true true = tt
+start-up-due : (t : Timing) (rs : List Request) (extended regular refreshed : Bool)
+    → Due t rs (cond extended (cond regular (cond refreshed none (some Refresh)) (some (Regular false))) (some (Extended 0)))
+start-up-due t rs false b d = (refl, (rs, refl))
+start-up-due t rs true false d = (refl, (rs, refl))
+start-up-due t rs true true false = (refl, (rs, refl))
+start-up-due t rs true true true = tt
 
-oldest-fits : (t : Timing) (rs : List Request) → AllFit t rs → Fits t (oldestOf rs)
-oldest-fits t [] f = tt
-oldest-fits t (r ∷ rs) f = f .0
+oldest-due : (t : Timing) (rs : List Request) → AllFit t rs → Due t rs (oldestOf rs)
+oldest-due t [] f = tt
+oldest-due t (r ∷ rs) f = (f .0, (rs, refl))
 
-due-fits : (t : Timing) (due : Bool) (o : Option Operation) → Fits t o → Fits t (cond due (some Refresh) o)
-due-fits t true o f = refl
-due-fits t false o f = f
+refresh-due : (t : Timing) (rs : List Request) (due : Bool) (o : Option Operation) → Due t rs o → Due t rs (cond due (some Refresh) o)
+refresh-due t rs true o f = (refl, (rs, refl))
+refresh-due t rs false o f = f
 
-candidate-fits : (t : Timing) (p : Past) (rs : List Request) → AllFit t rs → Fits t (candidate t p rs)
-candidate-fits t p rs f =
+pub candidate-due : (t : Timing) (p : Past) (rs : List Request) → AllFit t rs → Due t rs (candidate t p rs)
+candidate-due t p rs f =
     let ps = p .pairs in
-    or-else-fits t (startUp ps) (cond (refreshDue t p) (some Refresh) (oldestOf rs))
-    (start-up-fits t (leb 1 (length (closings wasExtended ps))) (leb 1 (length (closings wasRegular ps))) (leb 2 (length (closings wasRefresh ps))))
-    (due-fits t (refreshDue t p) (oldestOf rs) (oldest-fits t rs f))
+    or-else-due t rs (startUp ps) (cond (refreshDue t p) (some Refresh) (oldestOf rs))
+    (start-up-due t rs (leb 1 (length (closings wasExtended ps))) (leb 1 (length (closings wasRegular ps))) (leb 2 (length (closings wasRefresh ps))))
+    (refresh-due t rs (refreshDue t p) (oldestOf rs) (oldest-due t rs f))
 
--- the first word of what comes next opens a pair
-abbrev pub Opens : Timing → Option Operation → Type 0
-Opens t none = Unit {0}
-Opens t (some o) = opens (pairOf t o .first) ≡ true
-
-module _ (t : Timing) (bl : (t .bl ≡ 2) ⊎ (t .bl ≡ 4)) (cl : (3 ≤ t .cl) × (t .cl ≤ 5)) where
-  fits-open : (o : Option Operation) → Fits t o → Opens t o
-  fits-open none f = tt
-  fits-open (some o) f =
-      let w = pairOf t o in
-      rw (sound t (w .first) (w .second) (written-back t bl cl o f .0) .cs)
-
-  pub candidate-opens : (p : Past) (rs : List Request) → AllFit t rs → Opens t (candidate t p rs)
-  candidate-opens p rs f = fits-open (candidate t p rs) (candidate-fits t p rs f)
+-- the first word of an operation in range opens a pair
+pub fits-open : (t : Timing) (f : Figures t) (o : Operation) → operationFits t o ≡ true → opens (pairOf t o .first) ≡ true
+fits-open t f o h =
+    let w = pairOf t o in
+    rw (sound t (w .first) (w .second) (written-back t (f .bl) (f .cl) o h .0) .cs)

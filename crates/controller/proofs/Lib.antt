@@ -7,10 +7,12 @@ pub mod InTime
 pub mod Turn
 pub mod StartUp
 pub mod Phases
-pub mod Keeps
+pub mod Fulfilled
 pub mod Access
 pub mod Prompt
 pub mod Soonest
 pub mod Punctual
 pub mod Offers
 pub mod Bounds
+pub mod Queue
+pub mod Going

@@ -27,7 +27,7 @@ Close k [] = Unit {0}
 Close k (B ∷ Bs) = ((B ≤ k + 206) ⊎ (B ≤ 407)) × Close k Bs
 
 module _ (t : Timing) where
-  meets-sooner : (r F G B : ℕ) → G ≤ F → Meets t r F B → Meets t r G B
+  pub meets-sooner : (r F G B : ℕ) → G ≤ F → Meets t r F B → Meets t r G B
   meets-sooner r F G B h (inl m) = let m₀ = m .0 in inl (omega arith, m .1)
   meets-sooner r F G B h (inr m) = inr (omega arith)
 

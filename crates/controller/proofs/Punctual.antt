@@ -27,7 +27,7 @@ Same (r ∷ rs) (B ∷ Bs) = Same rs Bs
 abbrev pub Punctual : Timing → List ClosedPair → ℕ → List ℕ → Type 0
 Punctual t ps k Bs = Prompt t (lastRef ps) (soonest t ps k) Bs
 
-meets-by : (t : Timing) (r F B : ℕ) → Meets t r F B → F ≤ B
+pub meets-by : (t : Timing) (r F B : ℕ) → Meets t r F B → F ≤ B
 meets-by t r F B (inl m) = m .0
 meets-by t r F B (inr m) = omega arith
 

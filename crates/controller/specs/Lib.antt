@@ -3,3 +3,5 @@ pub mod Laid
 pub mod Cases
 pub mod States
 pub mod Steps
+pub mod Runs
+pub mod Demand3

@@ -1,0 +1,40 @@
+-- Demand 3: "For every list of offers and ticks, refused ones included, from a fresh controller with an accepted sheet, the following
+-- holds after it."
+use Prim.Native.Nat.{ℕ, _≤_, _<_}
+use mathlib.Core.Path.{_≡_}
+use mathlib.Core.List.{List, _∷_, _++_, map}
+use lib.ListN.{length, getD}
+use lib.Dec.{ltb}
+use Rattle.config.specs.Outcome.{value, refused, require}
+use Rattle.config.specs.Sheet.{timingOf}
+use Rattle.config.specs.declared.Config.{Config}
+use Rattle.config.specs.declared.Timing.{Timing}
+use Rattle.command.specs.Writing.{requestFits}
+use Rattle.command.specs.declared.operation.Request.{Request}
+use Rattle.protocol.specs.Verdict.{accepted, judge}
+use Rattle.controller.specs.Runs.{Call, Accepted, Run, run, lay, pairsOf, requestsOf, firstWords, latestStart}
+use Rattle.controller.specs.Steps.{held, offerOf, tickOf}
+
+-- of the run r of these calls
+pub record Holds (t : Timing) (calls : List Call) (r : Run) : Type 0 where
+  -- "The words given are those that the scope paper lays down for tick"
+  pub laid-down : r .words ≡ lay t calls .words
+  -- "and they keep every rule."
+  pub sound : judge t (r .words) ≡ accepted
+  -- "The requests of their read and write pairs, followed by those the controller holds waiting, are the accepted requests, all of them,
+  -- in order and field for field."
+  pub in-order : requestsOf t (pairsOf (r .words)) ++ held (r .controller) ≡ map (λ a. a .request) (r .accepted)
+  -- "A request accepted at clock c with q waiting has its first word no later than clock max(c, 201) + (q + 1) × S + RC + REFC, if ticks
+  -- were granted that far". "Ticks were granted as far as a clock when the word at that clock is among those given."
+  pub prompt : (older newer : List Accepted) (a : Accepted) → r .accepted ≡ older ++ a ∷ newer → latestStart t a < length (r .words)
+      → (length older < length (firstWords r)) × (getD (firstWords r) (length older) 0 ≤ latestStart t a)
+  -- "an offer is refused exactly for 26 or 27", whatever is offered next
+  pub offer-refused : (q : Request) → offerOf (r .controller) q .outcome ≡ require (requestFits t q) 26 (require (ltb (length (held (r .controller))) 16) 27 (value tt))
+  -- "a tick exactly for 24", which is the next tick's
+  pub tick-refused : tickOf (r .controller) .outcome ≡ require (ltb (length (r .words)) 16777216) 24 (value tt)
+
+pub record Demand3 : Type 0 where
+  pub holds : (c : Config) (t : Timing) → timingOf c ≡ value t → (calls : List Call) → Holds t calls (run c calls)
+  -- "No state that calls make from a fresh one refuses 19", on any sheet.
+  pub offer-never-19 : (c : Config) (calls : List Call) (q : Request) → offerOf (run c calls .controller) q .outcome ≡ refused 19 → ⊥
+  pub tick-never-19 : (c : Config) (calls : List Call) → tickOf (run c calls .controller) .outcome ≡ refused 19 → ⊥
