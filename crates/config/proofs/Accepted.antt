@@ -1,11 +1,12 @@
 -- A call that gave a value had an accepted configuration: all its tests held, and its timing is the derived one. Assumes nothing.
 use mathlib.Core.Path.{_≡_, sym, ap, subst}
-use mathlib.Core.Bool.{true}
-use Rattle.config.specs.Outcome.{Outcome, value, given}
+use mathlib.Core.Bool.{Bool, true, false}
+use native.Mathlib.Omega.{arith}
+use Rattle.config.specs.Outcome.{Outcome, value, refused, require, given}
 use Rattle.config.specs.Sheet.{partFits, periodFits, countsFit, derived, timingOf}
 use Rattle.config.specs.declared.Config.{Config}
 use Rattle.config.specs.declared.Timing.{Timing}
-use Rattle.config.proofs.Outcomes.{require-value, given-value}
+use Rattle.config.proofs.Outcomes.{refused-value, refused-by, require-value, given-value}
 
 pub record Accepted (c : Config) : Type 0 where
   pub part : partFits c ≡ true
@@ -28,3 +29,13 @@ behind c f e =
     let g = given-value (timingOf c) f e in
     let a = accepted c (g .0) (g .1) in
     (a .0, rw (a .1) (g .2))
+
+-- 19 is no refusal of a configuration
+pub config-19 : (c : Config) → timingOf c ≡ refused 19 → ⊥
+config-19 c = go (partFits c) (periodFits c) (countsFit c)
+  where
+    go : (a b d : Bool) → require a 20 (require b 21 (require d 22 (value (derived c)))) ≡ refused 19 → ⊥
+    go true true true e = refused-value (sym e)
+    go true true false e = refused-by (λ q. omega arith) e
+    go true false d e = refused-by (λ q. omega arith) e
+    go false b d e = refused-by (λ q. omega arith) e

@@ -18,3 +18,10 @@ require-value false n rest e = absurd (refused-value e)
 pub given-value : {A B : Type 0} (x : Outcome A) (f : A → Outcome B) {b : B} → given x f ≡ value b → (a : A) × (x ≡ value a) × (f a ≡ value b)
 given-value (value a) f e = (a, refl, e)
 given-value (refused n) f e = absurd (refused-value e)
+
+pub same-number : {A : Type 0} {m n : ℕ} → _≡_ {A = Outcome A} (refused m) (refused n) → m ≡ n
+same-number e = cc
+
+-- a refusal by another number
+pub refused-by : {A : Type 0} {m n : ℕ} → (m ≡ n → ⊥) → _≡_ {A = Outcome A} (refused m) (refused n) → ⊥
+refused-by h e = h (same-number e)

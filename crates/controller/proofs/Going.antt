@@ -1,6 +1,6 @@
 -- Where a list of calls has come: a tick's word keeps every rule, and each waiting request keeps its bound. Assumes nothing.
-use Prim.Native.Nat.{ℕ, _+_, _-_, _≤_, _<_}
-use mathlib.Core.Path.{_≡_, refl, sym, _∙_, ap, subst, subst⁻¹}
+use Prim.Native.Nat.{ℕ, _+_, _-_, _<_}
+use mathlib.Core.Path.{_≡_, refl, _∙_, ap, subst, subst⁻¹}
 use mathlib.Core.Bool.{Bool, true, false, cond, not, _&&_, _||_}
 use mathlib.Core.List.{List, [], _∷_, _++_, append-nil, append-assoc}
 use mathlib.Core.Option.{Option, none, some}
@@ -12,7 +12,7 @@ use lib.ListN.{length, length-append}
 use lib.Dec.{eqb}
 use Rattle.config.specs.declared.Timing.{Timing}
 use Rattle.config.proofs.Bounds.{both}
-use Rattle.command.specs.Reading.{opens, rda, lal, operationOf}
+use Rattle.command.specs.Reading.{opens, rda, lal}
 use Rattle.command.specs.Writing.{pairOf, requestFits, operationFits}
 use Rattle.command.specs.declared.operation.Request.{Request}
 use Rattle.command.specs.declared.operation.Operation.{Operation}
@@ -42,7 +42,7 @@ abbrev Passing : Timing → Past → Option Operation → Type 0
 Passing t p none = Unit {0}
 Passing t p (some o) = breachless t p (pairOf t o) ≡ true
 
-opening-due : (t : Timing) (rs : List Request) (p : Past) (x : Option Operation) → Due t rs x → Due t rs (opening t p x) × Passing t p (opening t p x)
+pub opening-due : (t : Timing) (rs : List Request) (p : Past) (x : Option Operation) → Due t rs x → Due t rs (opening t p x) × Passing t p (opening t p x)
 opening-due t rs p none h = (tt, tt)
 opening-due t rs p (some o) h = by (breachless t p (pairOf t o)) refl
   where
@@ -51,14 +51,17 @@ opening-due t rs p (some o) h = by (breachless t p (pairOf t o)) refl
     by false e = (tt, tt)
 
 -- the first word of an open read or write, at a clock where it is open
+abbrev pub accessOpen : Option Operation → Bool
+accessOpen none = false
+accessOpen (some o) = isAccess o
+
 abbrev pub openStart : Option Operation → ℕ → List ℕ
-openStart none k = []
-openStart (some o) k = cond (isAccess o) ((k - 1) ∷ []) []
+openStart x k = cond (accessOpen x) ((k - 1) ∷ []) []
 
 abbrev pub firstsOf : Course → List ℕ
 firstsOf c = starts (c .past .pairs) ++ openStart (c .opened) (c .past .clock)
 
-leave-front : (o : Operation) (qs : List Request) → leave o (requestOf o ++ qs) ≡ qs
+pub leave-front : (o : Operation) (qs : List Request) → leave o (requestOf o ++ qs) ≡ qs
 leave-front (Access r) qs = refl
 leave-front (Regular a3) qs = refl
 leave-front (Extended v) qs = refl

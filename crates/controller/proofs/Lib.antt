@@ -1,4 +1,5 @@
--- The words laid down keep every rule (Keeps), and each request opens within its bound (Bounds); the rest leads up to these two.
+-- Demand 3. Figures to Phases: the words laid down keep every rule. Access to Queue: a request opens within its bound. Going joins the
+-- two. Image and Represents: a controller's state stands for how far the calls have come. Runs and Demand3: every list of calls.
 pub mod Figures
 pub mod Candidates
 pub mod Spacings
@@ -7,7 +8,6 @@ pub mod InTime
 pub mod Turn
 pub mod StartUp
 pub mod Phases
-pub mod Fulfilled
 pub mod Access
 pub mod Prompt
 pub mod Soonest
@@ -15,4 +15,9 @@ pub mod Punctual
 pub mod Offers
 pub mod Bounds
 pub mod Queue
+pub mod Fulfilled
 pub mod Going
+pub mod Image
+pub mod Represents
+pub mod Runs
+pub mod Demand3

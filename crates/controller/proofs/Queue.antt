@@ -1,6 +1,6 @@
 -- The requests that have not opened, each with the bound of its closing word, and what an accepted offer adds. Assumes nothing.
 use Prim.Native.Nat.{ℕ, _+_, _*_, _≤_, _<_, max}
-use mathlib.Core.Path.{_≡_, refl, sym, _∙_, ap, subst}
+use mathlib.Core.Path.{_≡_, refl, sym, subst}
 use mathlib.Core.Bool.{Bool, true, false, cond}
 use mathlib.Core.List.{List, [], _∷_, _++_}
 use mathlib.Core.Logic.{_⊎_, inl, inr, ⊎-elim}
@@ -18,7 +18,7 @@ use Rattle.protocol.proofs.Newest.{Ordered, latest, latest-cons}
 use Rattle.controller.proofs.Figures.{Figures}
 use Rattle.controller.proofs.Candidates.{AllFit}
 use Rattle.controller.proofs.InTime.{lastRef}
-use Rattle.controller.proofs.Prompt.{Meets, Prompt, behind, Close, meets-sooner, one-more}
+use Rattle.controller.proofs.Prompt.{Meets, behind, Close, meets-sooner, one-more}
 use Rattle.controller.proofs.Soonest.{soonest}
 use Rattle.controller.proofs.Punctual.{Same, Punctual}
 use Rattle.controller.proofs.Offers.{accepted-meets}

@@ -1,6 +1,6 @@
 -- Demand 3: "For every list of offers and ticks, refused ones included, from a fresh controller with an accepted sheet, the following
 -- holds after it."
-use Prim.Native.Nat.{ℕ, _≤_, _<_}
+use Prim.Native.Nat.{_≤_, _<_}
 use mathlib.Core.Path.{_≡_}
 use mathlib.Core.List.{List, _∷_, _++_, map}
 use lib.ListN.{length, getD}

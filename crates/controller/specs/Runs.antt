@@ -1,6 +1,6 @@
 -- Lists of calls: what a controller comes to, and what the paper lays down for the same calls.
 use Prim.Native.Nat.{ℕ, _+_, _*_, _-_, max}
-use mathlib.Core.Bool.{Bool, cond, _&&_}
+use mathlib.Core.Bool.{cond, _&&_}
 use mathlib.Core.List.{List, [], _∷_, _++_}
 use lib.ListN.{length}
 use lib.Dec.{ltb}

@@ -8,11 +8,12 @@ use native.Mathlib.Omega.{arith}
 use borrow.Author.Tests.{lt-ltb, eq-eqb, ne-eqb, ltb-true}
 use lib.ListN.{length}
 use lib.Dec.{eqb, ltb}
-use Rattle.config.specs.Outcome.{Outcome, value, refused, require}
-use Rattle.config.specs.Sheet.{partFits, periodFits, countsFit, derived, timingOf}
+use Rattle.config.specs.Outcome.{Outcome, value, refused}
+use Rattle.config.specs.Sheet.{timingOf}
 use Rattle.config.specs.declared.Config.{Config}
 use Rattle.config.specs.declared.Timing.{Timing}
-use Rattle.config.proofs.Outcomes.{refused-value}
+use Rattle.config.proofs.Outcomes.{refused-value, same-number, refused-by}
+use Rattle.config.proofs.Accepted.{config-19}
 use Rattle.protocol.specs.History.{ClosedPair, Past, extendBy}
 use Rattle.protocol.specs.Verdict.{Judgement, accepted, breach, judge}
 use Rattle.protocol.specs.Stamps.{wordBreach, nextStamps, nextFirst}
@@ -113,19 +114,6 @@ kept-all : (c : Checker) (ws : List ℕ) → KeptBy c → KeptBy (afterAll c ws)
 kept-all c [] h = h
 kept-all c (w ∷ ws) h = kept-all (stepOf c w .after) ws (kept-step (timingOf (c .config)) c w h)
 
-same-number : {A : Type 0} {m n : ℕ} → _≡_ {A = Outcome A} (refused m) (refused n) → m ≡ n
-same-number e = cc
-
-refused-by : {A : Type 0} {m : ℕ} → (m ≡ 19 → ⊥) → _≡_ {A = Outcome A} (refused m) (refused 19) → ⊥
-refused-by h e = h (same-number e)
-
--- no outcome but a state that does not fit is a refusal by 19
-config-19 : (a b d : Bool) (t : Timing) → require a 20 (require b 21 (require d 22 (value t))) ≡ refused 19 → ⊥
-config-19 true true true t e = refused-value (sym e)
-config-19 true true false t e = refused-by (λ q. omega arith) e
-config-19 true false d t e = refused-by (λ q. omega arith) e
-config-19 false b d t e = refused-by (λ q. omega arith) e
-
 not-19 : (o : Outcome Timing) (c : Checker) (w : ℕ) → (o ≡ refused 19 → ⊥) → KeptBy c → stepBy o c w .outcome ≡ refused 19 → ⊥
 not-19 (refused m) c w n h = λ e. n (ap refused (same-number e))
 not-19 (value t) c w n h =
@@ -144,7 +132,7 @@ never-19 : (c : Config) (ws : List ℕ) (w : ℕ) → stepOf (afterAll (fresh c)
 never-19 c ws w =
     let s = afterAll (fresh c) ws in
     let a = s .config in
-    not-19 (timingOf a) s w (config-19 (partFits a) (periodFits a) (countsFit a) (derived a))
+    not-19 (timingOf a) s w (config-19 a)
     (kept-all (fresh c) ws (record { opened = none; pairs = []; regular = tt; limit = omega arith; first = refl; stamps = refl }))
 
 pub refinement : Refinement

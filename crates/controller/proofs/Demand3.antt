@@ -1,0 +1,168 @@
+-- Demand 3, over all configurations and all lists of calls. Assumes nothing.
+use Prim.Native.Nat.{ℕ, _+_, _≤_, _<_}
+use mathlib.Core.Path.{_≡_, refl, sym, _∙_, ap, ap₂, subst, subst⁻¹}
+use mathlib.Core.Bool.{Bool, true, false, cond, false≢true}
+use mathlib.Core.List.{List, [], _∷_, _++_, map}
+use native.Mathlib.Omega.{arith}
+use borrow.Author.Tests.{ltb-true, ltb-false}
+use lib.ListN.{length, getD, replicate}
+use lib.Seq.{take-append-seam}
+use lib.Dec.{ltb}
+use Rattle.config.specs.Outcome.{Outcome, value, refused, require}
+use Rattle.config.specs.Sheet.{timingOf}
+use Rattle.config.specs.declared.Config.{Config}
+use Rattle.config.specs.declared.Timing.{Timing}
+use Rattle.config.proofs.Outcomes.{refused-value, same-number, refused-by}
+use Rattle.config.proofs.Accepted.{accepted, config-19}
+use Rattle.command.specs.Writing.{requestFits}
+use Rattle.command.specs.declared.operation.Request.{Request}
+use Rattle.controller.specs.Laid as laid
+use Rattle.controller.specs.States.{vacant, fresh}
+use Rattle.controller.specs.Steps.{held, ofOldest, joined, notOffered, offerOf, tickOf}
+use Rattle.controller.specs.Runs.{Call, offer, tick, Accepted, Run, called, runFrom, run, Key, lay, pairsOf, requestsOf, firstWords, latestStart}
+use Rattle.controller.specs.Demand3.{Holds, Demand3}
+use Rattle.controller.specs.declared.Controller.{Controller}
+use Rattle.controller.specs.declared.OpenPair.the-variants.{Nothing}
+use Rattle.controller.proofs.Figures.{Figures, figures}
+use Rattle.controller.proofs.Fulfilled.{Met, met-at}
+use Rattle.controller.proofs.Going.{accessOpen, firstsOf, start-goes, none-passed}
+use Rattle.controller.proofs.Image.{oldest-in, front}
+use Rattle.controller.proofs.Represents.{offer-is, tick-represents, tick-ends}
+use Rattle.controller.proofs.Runs.{closingBound, Kept, all-kept}
+
+module _ (c : Config) (t : Timing) (is : timingOf c ≡ value t) (f : Figures t) where
+  start-kept : Kept c t is f (record { words = []; accepted = []; controller = fresh c }) (record { words = []; course = laid.start })
+  start-kept =
+      record {
+        words = refl;
+        past = refl;
+        clock = refl;
+        limit = omega arith;
+        sound = refl;
+        represents = record { opened = Nothing; spare = 16; state = refl; room = refl; operation = refl; of-waiting = λ w. absurd (false≢true w) };
+        bounds = [];
+        going = start-goes t f;
+        order = refl;
+        met = refl;
+      }
+
+  module _ (r : Run) (k : Key) (h : Kept c t is f r k) where
+    is-held : held (r .controller) ≡ k .course .waiting
+    is-held = ap held (h .represents .state) ∙ take-append-seam (k .course .waiting) (replicate (h .represents .spare) vacant)
+
+    pairs-are : pairsOf (r .words) ≡ k .course .past .pairs
+    pairs-are = ap pairsOf (h .words) ∙ sym (ap (λ p. p .pairs) (h .past))
+
+    firsts-are : firstWords r ≡ firstsOf (k .course)
+    firsts-are =
+        let p = h .represents .opened in
+        let opened = ap (λ s. s .opened) (h .represents .state) in
+        let kind : ofOldest (r .controller .opened) ≡ accessOpen (k .course .opened) = ap ofOldest opened ∙ oldest-in p (front (k .course .waiting)) ∙ ap accessOpen (h .represents .operation) in
+        let at : length (r .words) ≡ k .course .past .clock = ap length (h .words) ∙ sym (h .clock) in
+        rw (pairs-are, kind, at)
+
+    prompt : (older newer : List Accepted) (a : Accepted) → r .accepted ≡ older ++ a ∷ newer → latestStart t a < length (r .words)
+        → (length older < length (firstWords r)) × (getD (firstWords r) (length older) 0 ≤ latestStart t a)
+    prompt older newer a e late =
+        let x = k .course in
+        let at = h .clock in
+        let same = ap length (h .words) in
+        let met = subst (λ all. Met (firstsOf x) (map (closingBound t) all) (h .bounds)) e (h .met) in
+        let m = met-at (closingBound t) (x .past .clock + 1) a newer (h .bounds) (omega arith) (none-passed t f x (h .bounds) (h .going)) older (firstsOf x) met in
+        let by = m .1 in
+        subst⁻¹ (λ us. (length older < length us) × (getD us (length older) 0 ≤ latestStart t a)) firsts-are (m .0, omega arith)
+
+    offer-refused : (q : Request) → offerOf (r .controller) q .outcome ≡ require (requestFits t q) 26 (require (ltb (length (held (r .controller))) 16) 27 (value tt))
+    offer-refused q =
+        let at = h .clock in
+        let low = h .limit in
+        rw (is-held, offer-is c t is f (r .controller) (k .course) (h .bounds) q (h .represents) (h .going) (omega arith))
+        (by (requestFits t q) (ltb (length (k .course .waiting)) 16))
+      where
+        s : Controller
+        s = r .controller
+
+        by : (b d : Bool) → cond b (cond d (record { outcome = value tt; after = joined s q }) (notOffered s 27)) (notOffered s 26) .outcome ≡ require b 26 (require d 27 (value tt))
+        by true true = refl
+        by true false = refl
+        by false d = refl
+
+    tick-refused : tickOf (r .controller) .outcome ≡ require (ltb (length (r .words)) 16777216) 24 (value tt)
+    tick-refused = rw (h .words) (by (ltb (length (k .words)) 16777216) refl)
+      where
+        by : (b : Bool) → ltb (length (k .words)) 16777216 ≡ b → tickOf (r .controller) .outcome ≡ require b 24 (value tt)
+        by true e =
+            let at = h .clock in
+            let low = ltb-true (length (k .words)) 16777216 e in
+            ap (λ y. y .outcome) (tick-represents c t is f (r .controller) (k .course) (h .bounds) (h .represents) (h .going) (omega arith) .tick)
+        by false e =
+            let at = h .clock in
+            let low = h .limit in
+            let over = ltb-false (length (k .words)) 16777216 e in
+            ap (λ y. y .outcome) (tick-ends c t is f (r .controller) (k .course) (h .bounds) (h .represents) (h .going) (omega arith))
+
+    pub from-kept : (calls : List Call) → k ≡ lay t calls → Holds t calls r
+    from-kept calls e =
+        record {
+          laid-down = h .words ∙ ap (λ k. k .words) e;
+          sound = rw (h .words) (h .sound);
+          in-order = ap₂ (λ ps rs. requestsOf t ps ++ rs) pairs-are is-held ∙ h .order;
+          prompt = prompt;
+          offer-refused = offer-refused;
+          tick-refused = tick-refused;
+        }
+
+holds : (c : Config) (t : Timing) → timingOf c ≡ value t → (calls : List Call) → Holds t calls (run c calls)
+holds c t is calls =
+    let a = accepted c t is in
+    let f = subst Figures (a .1) (figures c (a .0)) in
+    from-kept c t is f (run c calls) (lay t calls) (all-kept c t is f _ _ calls (start-kept c t is f)) calls refl
+
+-- a controller on a refused configuration stays as it is
+refused-stays : (n : ℕ) (r : Run) (calls : List Call) → timingOf (r .controller .config) ≡ refused n → runFrom r calls .controller ≡ r .controller
+refused-stays n r [] e = refl
+refused-stays n r (tick ∷ calls) e =
+    let same : called r tick .controller ≡ r .controller = rw e in
+    refused-stays n (called r tick) calls (subst⁻¹ (λ s. timingOf (s .config) ≡ refused n) same e) ∙ same
+refused-stays n r (offer q ∷ calls) e =
+    let same : called r (offer q) .controller ≡ r .controller = rw e in
+    refused-stays n (called r (offer q)) calls (subst⁻¹ (λ s. timingOf (s .config) ≡ refused n) same e) ∙ same
+
+-- no outcome of a call is a refusal by 19
+abbrev Not19 : Outcome (Unit {0}) → Type 0
+Not19 x = x ≡ refused 19 → ⊥
+
+passed-19 : Not19 (value tt)
+passed-19 e = refused-value (sym e)
+
+require-19 : (b : Bool) (n : ℕ) (x : Outcome (Unit {0})) → (n ≡ 19 → ⊥) → Not19 x → Not19 (require b n x)
+require-19 true n x h g = g
+require-19 false n x h g = refused-by h
+
+module _ (c : Config) (calls : List Call) where
+  abbrev end : Controller
+  end = run c calls .controller
+
+  -- on a refused configuration every call is refused as the fresh one refuses it
+  config-refuses : (n : ℕ) → timingOf c ≡ refused n → Not19 (refused n)
+  config-refuses n is e = config-19 c (is ∙ ap refused (same-number e))
+
+  offered-19 : (q : Request) (o : Outcome Timing) → timingOf c ≡ o → Not19 (offerOf end q .outcome)
+  offered-19 q (value t) is =
+      subst⁻¹ Not19 (holds c t is calls .offer-refused q)
+      (require-19 (requestFits t q) 26 _ (λ e. omega arith) (require-19 (ltb (length (held end)) 16) 27 _ (λ e. omega arith) passed-19))
+  offered-19 q (refused n) is =
+      subst⁻¹ (λ s. Not19 (offerOf s q .outcome)) (refused-stays n _ calls is) (rw is (config-refuses n is))
+
+  ticked-19 : (o : Outcome Timing) → timingOf c ≡ o → Not19 (tickOf end .outcome)
+  ticked-19 (value t) is =
+      subst⁻¹ Not19 (holds c t is calls .tick-refused) (require-19 (ltb (length (run c calls .words)) 16777216) 24 _ (λ e. omega arith) passed-19)
+  ticked-19 (refused n) is = subst⁻¹ (λ s. Not19 (tickOf s .outcome)) (refused-stays n _ calls is) (rw is (config-refuses n is))
+
+pub demand-3 : Demand3
+demand-3 =
+    record {
+      holds = holds;
+      offer-never-19 = λ c calls q. offered-19 c calls q (timingOf c) refl;
+      tick-never-19 = λ c calls. ticked-19 c calls (timingOf c) refl;
+    }
