@@ -1,4 +1,6 @@
--- The words laid down keep every rule (Keeps), and each request opens within its bound (Bounds); the rest leads up to these two.
+-- The words laid down keep every rule (Keeps), and each request opens within its bound (Bounds); Waiting serves the proofs of the code,
+-- and the rest leads up to these two.
+pub mod Waiting
 pub mod Figures
 pub mod Candidates
 pub mod Spacings
