@@ -35,7 +35,7 @@ use Rattle.controller.proofs.Soonest.{soonest, soonest-pace}
 use Rattle.controller.proofs.Punctual.{Punctual}
 use Rattle.controller.proofs.Bounds.{Kept, phase-kept}
 use Rattle.controller.proofs.Fulfilled.{Met, one-met, After, prompt-after, after-mono}
-use Rattle.controller.proofs.Queue.{Queue, bound, close-later, queue-offer}
+use Rattle.controller.proofs.Unopened.{Queue, bound, close-later, queue-offer}
 
 -- a pair that opens breaches nothing
 abbrev Passing : Timing → Past → Option Operation → Type 0

@@ -1,5 +1,6 @@
--- Demand 3. Figures to Phases: the words laid down keep every rule. Access to Queue: a request opens within its bound. Going joins the
--- two. Image and Represents: a controller's state stands for how far the calls have come. Runs and Demand3: every list of calls.
+-- Demand 3. Figures to Phases: the words laid down keep every rule. Access to Unopened: a request opens within its bound. Going joins
+-- the two. Image and Represents: a controller's state stands for how far the calls have come. Runs and Demand3: every list of calls.
+-- Waiting is for the code.
 pub mod Figures
 pub mod Candidates
 pub mod Spacings
@@ -14,10 +15,11 @@ pub mod Soonest
 pub mod Punctual
 pub mod Offers
 pub mod Bounds
-pub mod Queue
+pub mod Unopened
 pub mod Fulfilled
 pub mod Going
 pub mod Image
 pub mod Represents
 pub mod Runs
 pub mod Demand3
+pub mod Waiting

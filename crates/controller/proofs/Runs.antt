@@ -26,7 +26,7 @@ use Rattle.controller.specs.Steps.{held, offerOf}
 use Rattle.controller.specs.Runs.{Call, offer, tick, Accepted, Run, called, Key, followed, ifAccepted, pastFrom, requestsOf, runFrom, layFrom}
 use Rattle.controller.proofs.Figures.{Figures}
 use Rattle.controller.proofs.Fulfilled.{Met, one-asked}
-use Rattle.controller.proofs.Queue.{bound}
+use Rattle.controller.proofs.Unopened.{bound}
 use Rattle.controller.proofs.Going.{firstsOf, Going, tick-goes, offer-goes}
 use Rattle.controller.proofs.Represents.{Represents, refusing, offer-is, offer-represents, tick-represents, tick-ends}
 

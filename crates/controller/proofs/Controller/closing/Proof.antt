@@ -1,0 +1,45 @@
+-- The words of the open pair, and what is left of the queue. Assumes nothing.
+use Rattle.controller.proofs.Waiting.{oldest-waits}
+use borrow.Author.Needs.{needs}
+use Rattle.controller.proofs.Controller.closing.Statement.{statement}
+use Rattle.controller.proofs.Controller.closing.Tie as tie
+
+array-copy-out-words-of : tie.Need-array-copy-out-words-of
+array-copy-out-words-of c = search needs
+
+words-of-requires : tie.Need-words-of-requires
+words-of-requires c κs = search needs
+
+of-oldest-requires : tie.Need-of-oldest-requires
+of-oldest-requires c κs = search needs
+
+add-t14 : tie.Need-add-t14
+add-t14 c = search needs
+
+remembered-requires : tie.Need-remembered-requires
+remembered-requires c κs = search needs
+
+requests-left-requires : tie.Need-requests-left-requires
+requests-left-requires c κs = search needs
+
+count-left-requires : tie.Need-count-left-requires
+count-left-requires c κs =
+    let a = c .before .before .before .before .before .before .before .before .args in
+    rw (c .before .before .of-oldest .ensures) (oldest-waits (a .timing) (a .self) (c .before .before .before .before .before .before .before .before .pre .1))
+
+returns : tie.Need-returns
+returns c = rw
+    (c .count-left .ensures, c .before .requests-left .ensures, c .before .before .remembered .ensures, c .before .before .before .of-oldest .ensures, c .before .before .before .before .words-of .ensures)
+
+pub closing-spec : {M : Type 1} → statement M
+closing-spec =
+    tie.close
+    (tie.spec
+    array-copy-out-words-of
+    words-of-requires
+    of-oldest-requires
+    add-t14
+    remembered-requires
+    requests-left-requires
+    count-left-requires
+    returns)

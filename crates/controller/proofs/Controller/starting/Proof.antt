@@ -1,0 +1,24 @@
+-- The pair that opens, and its words. Assumes nothing.
+use borrow.Author.Needs.{needs}
+use Rattle.controller.proofs.Controller.starting.Statement.{statement}
+use Rattle.controller.proofs.Controller.starting.Tie as tie
+
+opens-next-requires : tie.Need-opens-next-requires
+opens-next-requires c κs = search needs
+
+array-copy-out-words-of : tie.Need-array-copy-out-words-of
+array-copy-out-words-of c = search needs
+
+words-of-requires : tie.Need-words-of-requires
+words-of-requires c κs = search needs
+
+add-t12 : tie.Need-add-t12
+add-t12 c = search needs
+
+returns : tie.Need-returns
+returns c = rw (c .before .words-of .ensures, c .before .before .before .opens-next .ensures)
+
+pub starting-spec : {M : Type 1} → statement M
+starting-spec =
+    tie.close
+    (tie.spec opens-next-requires array-copy-out-words-of words-of-requires add-t12 returns)

@@ -1,0 +1,78 @@
+-- The invariant: all fit if those fit that are left. Assumes nothing.
+use Prim.Native.Nat.{_-_, _≤_}
+use mathlib.Core.Path.{_≡_, refl}
+use native.Mathlib.Omega.{arith}
+use borrow.Author.Tests.{not-true, not-false}
+use lib.ListN.{take, drop}
+use Rattle.controller.specs.Steps.{allFit}
+use Rattle.controller.proofs.Waiting.{fits-from, fits-behind}
+use borrow.Author.Needs.{needs}
+use Rattle.controller.proofs.state.waiting_fit.Statement.{statement}
+use Rattle.controller.proofs.state.waiting_fit.Tie as tie
+
+abbrev Inv-loop : tie.InvT-loop
+Inv-loop timing count waiting i₀ i =
+    (i ≤ count) × (allFit timing (take count waiting) ≡ allFit timing (drop i (take count waiting)))
+
+abbrev μ-loop : tie.MeasureT-loop
+μ-loop timing count waiting i₀ i = count - i
+
+loop-holds : tie.Need-loop-holds Inv-loop μ-loop
+loop-holds c = (search needs, refl)
+
+cast-request : tie.Need-cast-request Inv-loop μ-loop
+cast-request c = search needs
+
+mul-request : tie.Need-mul-request Inv-loop μ-loop
+mul-request c = search needs
+
+array-copy-out-request : tie.Need-array-copy-out-request Inv-loop μ-loop
+array-copy-out-request c = search needs
+
+request-fits-requires : tie.Need-request-fits-requires Inv-loop μ-loop
+request-fits-requires c κs = search needs
+
+returns : tie.Need-returns Inv-loop μ-loop
+returns c =
+    let l = c .before .before .before .before .loop in
+    let a = c .before .before .before .before .before .args in
+    rw
+    (l .inv .1, fits-from (a .timing) (a .t2) (a .count) (l .i) (omega arith) (c .before .before .before .loop-test .taken), ← c .before .request-fits .ensures, not-true (c .before .request-fits .result) (c .if1 .taken))
+
+add-i : tie.Need-add-i Inv-loop μ-loop
+add-i c = search needs
+
+loop-less : tie.Need-loop-less Inv-loop μ-loop
+loop-less c = search needs
+
+loop-again : tie.Need-loop-again Inv-loop μ-loop
+loop-again c =
+    let l = c .before .before .before .before .loop in
+    let a = c .before .before .before .before .before .args in (
+      search needs,
+      rw
+          (l .inv .1, fits-from (a .timing) (a .t2) (a .count) (l .i) (omega arith) (c .before .before .before .loop-test .taken), ← c .before .request-fits .ensures, not-false (c .before .request-fits .result) (c .if1 .left)),
+    )
+
+returns-2 : tie.Need-returns-2 Inv-loop μ-loop
+returns-2 c =
+    let l = c .before .loop in
+    let a = c .before .before .args in
+    rw (l .inv .1, fits-behind (a .timing) (a .t2) (a .count) (l .i) (omega arith) (c .loop-test .left))
+
+pub waiting-fit-spec : {M : Type 1} → statement M
+waiting-fit-spec =
+    tie.close
+    (tie.spec
+    Inv-loop
+    μ-loop
+    loop-holds
+    cast-request
+    mul-request
+    array-copy-out-request
+    request-fits-requires
+    returns
+    add-i
+    loop-less
+    loop-again
+    returns-2)
