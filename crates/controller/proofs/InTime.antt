@@ -2,7 +2,7 @@
 -- nothing.
 use Prim.Native.Nat.{ℕ, _+_, _≤_, _<_}
 use mathlib.Core.Path.{_≡_}
-use mathlib.Core.Bool.{Bool, true, false, not}
+use mathlib.Core.Bool.{Bool, true, false, cond, not}
 use mathlib.Core.List.{List, _∷_}
 use mathlib.Core.Logic.{_⊎_, inl, inr, ⊎-elim}
 use native.Mathlib.Omega.{arith}
@@ -10,7 +10,7 @@ use lib.ListN.{getD}
 use Rattle.config.specs.declared.Timing.{Timing}
 use Rattle.protocol.specs.History.{ClosedPair}
 use Rattle.protocol.specs.Rules.{closings, oldest, wasRead, wasWrite, wasMode, wasRegular, wasExtended, wasRefresh}
-use Rattle.protocol.proofs.Newest.{Ordered, latest}
+use Rattle.protocol.proofs.Newest.{Ordered, latest, latest-cons}
 use Rattle.protocol.proofs.Summary.{summary}
 use Rattle.protocol.proofs.Words.{ordered-mono}
 use Rattle.controller.proofs.Figures.{Figures}
@@ -44,6 +44,17 @@ pub record Normal (t : Timing) (ps : List ClosedPair) (k : ℕ) : Type 0 where
   pub read : latest wasRead ps + t .rc ≤ lastRef ps + t .refi
   pub write : latest wasWrite ps + t .rc ≤ lastRef ps + t .refi
   pub timely : Timely t ps k
+
+-- a spacing counted from the pair that opened at k, or from an older one
+pub latest-moved : (ps : List ClosedPair) (k : ℕ) (p : ClosedPair) → p .start ≡ k → (g : ClosedPair → Bool) (n G : ℕ) → k + 1 + n ≤ G → latest g ps + n ≤ G
+    → latest g (p ∷ ps) + n ≤ G
+latest-moved ps k p at g n G new old = rw (latest-cons g p ps) (by (g p))
+  where
+    by : (x : Bool) → cond x (p .start + 1) (latest g ps) + n ≤ G
+    by true =
+        let h = at in
+        omega arith
+    by false = old
 
 module _ (t : Timing) (f : Figures t) (ps : List ClosedPair) (k : ℕ) (n : Normal t ps k) where
   -- the next word is in time too
@@ -110,30 +121,29 @@ module _ (t : Timing) (f : Figures t) (ps : List ClosedPair) (k : ℕ) (n : Norm
     -- a read or write, where no refresh is called for
     pub after-access : (read : Bool) → wasRead p ≡ read → wasWrite p ≡ not read → wasMode p ≡ false → wasRefresh p ≡ false
         → k + t .rc < lastRef ps + t .refi → Normal t (p ∷ ps) (k + 2)
-    after-access true r w m e h =
+    after-access read r w m e h =
         let l = n .last in
         let c = f .rc .0 in
+        let reads = n .read in
+        let writes = n .write in
         record {
           ordered = ordered;
           ready = still-ready m e;
           last = rw e (omega arith);
           mode = rw m (n .mode);
-          read = rw (e, r, at) (omega arith);
-          write = rw (e, w) (n .write);
-          timely = rw (e, r, w, at) (inr (inl (omega arith)));
+          read = rw e (latest-moved ps k p at wasRead (t .rc) (lastRef ps + t .refi) (omega arith) reads);
+          write = rw e (latest-moved ps k p at wasWrite (t .rc) (lastRef ps + t .refi) (omega arith) writes);
+          timely = inr (by read r w);
         }
-    after-access false r w m e h =
-        let l = n .last in
-        let c = f .rc .0 in
-        record {
-          ordered = ordered;
-          ready = still-ready m e;
-          last = rw e (omega arith);
-          mode = rw m (n .mode);
-          read = rw (e, r) (n .read);
-          write = rw (e, w, at) (omega arith);
-          timely = rw (e, r, w, at) (inr (inr (omega arith)));
-        }
+      where
+        by : (read : Bool) → wasRead p ≡ read → wasWrite p ≡ not read
+            → (k + 2 + 1 ≤ latest wasRead (p ∷ ps) + t .rc) ⊎ (k + 2 + 1 ≤ latest wasWrite (p ∷ ps) + t .rc)
+        by true r w =
+            let c = f .rc .0 in
+            inl (rw (r, at) (omega arith))
+        by false r w =
+            let c = f .rc .0 in
+            inr (rw (w, at) (omega arith))
 
     -- a refresh, once it is called for
     pub after-refresh : wasRead p ≡ false → wasWrite p ≡ false → wasMode p ≡ false → wasRefresh p ≡ true

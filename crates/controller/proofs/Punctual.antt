@@ -1,7 +1,7 @@
 -- After the start-up every tick keeps the bounds of the waiting requests, and a request opens within its own. Assumes nothing.
 use Prim.Native.Nat.{ℕ, _+_, _≤_, _<_}
 use mathlib.Core.Path.{_≡_, refl, subst}
-use mathlib.Core.Bool.{Bool, true, false, cond}
+use mathlib.Core.Bool.{true, false}
 use mathlib.Core.List.{List, [], _∷_}
 use mathlib.Core.Logic.{_⊎_, inl, inr}
 use native.Mathlib.Omega.{arith}
@@ -10,9 +10,8 @@ use Rattle.config.specs.declared.Timing.{Timing}
 use Rattle.command.specs.declared.operation.Request.{Request}
 use Rattle.protocol.specs.History.{ClosedPair}
 use Rattle.protocol.specs.Rules.{wasRead, wasWrite, wasRefresh}
-use Rattle.protocol.proofs.Newest.{latest, latest-cons}
 use Rattle.controller.proofs.Figures.{Figures}
-use Rattle.controller.proofs.InTime.{lastRef}
+use Rattle.controller.proofs.InTime.{lastRef, latest-moved}
 use Rattle.controller.proofs.Prompt.{Meets, Prompt, Close, sooner, put-off}
 use Rattle.controller.proofs.Soonest.{Pace, soonest, soonest-pace, pace-soonest}
 
@@ -36,16 +35,6 @@ module _ (t : Timing) (f : Figures t) (ps : List ClosedPair) (k F : ℕ) (c : Pa
   pace-idle h = record { now = omega arith; ready = c .ready; read = c .read; write = c .write; refresh = c .refresh }
 
   module _ (p : ClosedPair) (at : p .start ≡ k) where
-    -- a spacing counted from the pair that opened at k, or from an older one
-    moved : (g : ClosedPair → Bool) (n G : ℕ) → k + 1 + n ≤ G → latest g ps + n ≤ G → latest g (p ∷ ps) + n ≤ G
-    moved g n G new old = rw (latest-cons g p ps) (by (g p))
-      where
-        by : (x : Bool) → cond x (p .start + 1) (latest g ps) + n ≤ G
-        by true =
-            let h = at in
-            omega arith
-        by false = old
-
     pace-access : wasRefresh p ≡ false → Pace t (p ∷ ps) (k + 2) (F + t .spacing)
     pace-access e =
         let now = c .now in
@@ -58,8 +47,8 @@ module _ (t : Timing) (f : Figures t) (ps : List ClosedPair) (k F : ℕ) (c : Pa
         record {
           now = omega arith;
           ready = omega arith;
-          read = moved wasRead (t .spacing) (F + t .spacing) (omega arith) (omega arith);
-          write = moved wasWrite (t .spacing) (F + t .spacing) (omega arith) (omega arith);
+          read = latest-moved ps k p at wasRead (t .spacing) (F + t .spacing) (omega arith) (omega arith);
+          write = latest-moved ps k p at wasWrite (t .spacing) (F + t .spacing) (omega arith) (omega arith);
           refresh = rw e (omega arith);
         }
 
@@ -76,7 +65,7 @@ module _ (t : Timing) (f : Figures t) (ps : List ClosedPair) (k F : ℕ) (c : Pa
           ready = omega arith;
           read = rw r (omega arith);
           write = rw w (omega arith);
-          refresh = moved wasRefresh (t .refc) (F + t .refc) (omega arith) (omega arith);
+          refresh = latest-moved ps k p at wasRefresh (t .refc) (F + t .refc) (omega arith) (omega arith);
         }
 
 module _ (t : Timing) (f : Figures t) (ps : List ClosedPair) (k : ℕ) where
