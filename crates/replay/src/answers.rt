@@ -5,6 +5,8 @@ use command::Request;
 use command::WriteAnswer;
 use config::Refusal;
 use config::TimingAnswer;
+use controller::CallAnswer;
+use controller::Controller;
 use counts::CountsAnswer;
 use libc::STDOUT_FILENO;
 use protocol::Breach;
@@ -137,5 +139,45 @@ pub fn counted(answer: CountsAnswer) {
             end();
         }
         CountsAnswer::Refused(why, _) => refused(why),
+    }
+}
+
+pub fn offered(answer: CallAnswer) {
+    match answer {
+        CallAnswer::Accepted => text(b"offered\n"),
+        CallAnswer::Refused(why) => refused(why),
+    }
+}
+
+// A word that a tick gave, with its clock.
+pub fn word(clock: u32, word: u32) {
+    text(b"word");
+    number(clock);
+    number(word);
+    end();
+}
+
+// The answer of the last tick, with the clock that the controller has reached.
+pub fn ticked(answer: CallAnswer, clock: u32) {
+    match answer {
+        CallAnswer::Accepted => {
+            text(b"clock");
+            number(clock);
+            end();
+        }
+        CallAnswer::Refused(why) => refused(why),
+    }
+}
+
+pub fn waiting(controller: Controller) {
+    let requests = controller.waiting;
+    text(b"waiting");
+    number(controller.count);
+    end();
+    for i in 0..16 {
+        if i < controller.count as usize {
+            text(b"request");
+            request(requests[i]);
+        }
     }
 }

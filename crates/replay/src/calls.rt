@@ -8,6 +8,7 @@ use crate::script::holds;
 use crate::script::request_at;
 use crate::script::start;
 use crate::script::word;
+use crate::ticks;
 use crate::traces;
 use command::Operation;
 use command::Pair;
@@ -18,9 +19,12 @@ pub fn call(bytes: &[u8], at: usize, state: State) -> Step {
         1 => configure(bytes, at, state),
         2 => traces::step(bytes, at, state),
         3 => traces::check(bytes, at, state),
+        4 => ticks::offer(bytes, at, state),
+        5 => ticks::tick(bytes, at, state),
         6 => read(bytes, at, state),
         7 => write(bytes, at, state),
         8 => traces::count(bytes, at, state),
+        9 => ticks::waiting(at, state),
         _ => Step { state, next: 0 },
     }
 }

@@ -3,6 +3,7 @@
 mod answers;
 mod calls;
 mod script;
+mod ticks;
 mod traces;
 
 use config::Config;

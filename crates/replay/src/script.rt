@@ -1,5 +1,6 @@
 // The script's words, and what the program holds between calls.
 use command::Request;
+use controller::Controller;
 use protocol::Checker;
 ghost use mathlib.Core.Path.{_≡_};
 ghost use lib.ListN.{length};
@@ -10,6 +11,7 @@ use config::Picoseconds;
 pub struct State {
     pub config: Config,
     pub checker: Checker,
+    pub controller: Controller,
 }
 
 // The state after a call, and the index of the word behind it; an index that is not larger refuses the script.
@@ -18,11 +20,12 @@ pub struct Step {
     pub next: usize,
 }
 
-// A fresh checker on a configuration, accepted or not.
+// A fresh checker and a fresh controller on a configuration, accepted or not.
 pub fn start(config: Config) -> State {
     State {
         config,
         checker: Checker::fresh(config),
+        controller: Controller::fresh(config),
     }
 }
 

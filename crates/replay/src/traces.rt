@@ -46,10 +46,19 @@ pub fn step(bytes: &[u8], at: usize, state: State) -> Step {
     let checker = state.checker;
     let stepped = step_many(checker, word(bytes, at, 1), word(bytes, at, 2));
     let config = state.config;
+    let controller = state.controller;
     let checker = stepped.checker;
     let verdict = stepped.verdict;
     answers::stepped(verdict, checker.clock);
-    behind(State { config, checker }, at, 3)
+    behind(
+        State {
+            config,
+            checker,
+            controller,
+        },
+        at,
+        3,
+    )
 }
 
 // The words of a call that holds their number and then them; refused where the script ends inside it.

@@ -1,0 +1,87 @@
+// The calls on the controller: offer a request, tick, show the requests that wait.
+use crate::answers;
+use crate::calls::behind;
+use crate::script::State;
+use crate::script::Step;
+use crate::script::ahead;
+use crate::script::holds;
+use crate::script::request_at;
+use crate::script::word;
+use controller::CallAnswer;
+use controller::Controller;
+use controller::Ticked;
+use protocol::DESL;
+
+// The state with another controller.
+fn with_controller(state: State, controller: Controller) -> State {
+    let config = state.config;
+    let checker = state.checker;
+    State {
+        config,
+        checker,
+        controller,
+    }
+}
+
+// 4: offer the request.
+pub fn offer(bytes: &[u8], at: usize, state: State) -> Step {
+    if !holds(bytes, at, 7) {
+        return Step { state, next: 0 };
+    }
+    let controller = state.controller;
+    let offered = controller.offer(request_at(bytes, ahead(at, 1)));
+    let answer = offered.answer;
+    let controller = offered.controller;
+    answers::offered(answer);
+    behind(with_controller(state, controller), at, 7)
+}
+
+fn accepted(answer: CallAnswer) -> bool {
+    match answer {
+        CallAnswer::Accepted => true,
+        CallAnswer::Refused(_) => false,
+    }
+}
+
+// Ticks count times, ending at the first that is refused, and writes each word that is not DESL.
+fn tick_many(controller: Controller, count: u32) -> Ticked {
+    let mut now = controller;
+    let mut left = count;
+    while 0 < left {
+        let ticked = now.tick();
+        let answer = ticked.answer;
+        if !accepted(answer) {
+            return ticked;
+        }
+        if ticked.word != DESL {
+            answers::word(now.clock, ticked.word);
+        }
+        now = ticked.controller;
+        left -= 1;
+    }
+    Ticked {
+        answer: CallAnswer::Accepted,
+        word: 0,
+        controller: now,
+    }
+}
+
+// 5: tick.
+pub fn tick(bytes: &[u8], at: usize, state: State) -> Step {
+    if !holds(bytes, at, 2) {
+        return Step { state, next: 0 };
+    }
+    let controller = state.controller;
+    let ticked = tick_many(controller, word(bytes, at, 1));
+    let answer = ticked.answer;
+    let controller = ticked.controller;
+    answers::ticked(answer, controller.clock);
+    behind(with_controller(state, controller), at, 2)
+}
+
+// 9: the requests waiting.
+pub fn waiting(at: usize, state: State) -> Step {
+    let controller = state.controller;
+    answers::waiting(controller);
+    behind(state, at, 1)
+}
