@@ -1,29 +1,22 @@
 // The controller: it keeps requests waiting and gives the words of its ticks.
 mod next;
+mod offering;
 mod queue;
 mod state;
+mod ticking;
 
 use command::Request;
 use config::Config;
 use config::Refusal;
-use config::Timing;
 use config::TimingAnswer;
-use next::opens_next;
-use next::words_of;
-use protocol::LIMIT;
+use offering::not_offered;
+use offering::offer_by;
 use protocol::Timestamps;
-use queue::count_left;
-use queue::requests_left;
-use state::is_open;
-use state::of_oldest;
-use state::state_fits;
+use ticking::not_ticked;
+use ticking::tick_by;
 ghost use mathlib.Core.Path.{_≡_};
-ghost use mathlib.Core.Bool.{true};
-ghost use Prim.Native.Nat.{_<_};
-ghost use Rattle.config.specs.Outcome.{value};
-ghost use Rattle.config.specs.Numbers.{refusalNumber};
 ghost use Rattle.controller.specs.States.{fresh};
-ghost use Rattle.controller.specs.Steps.{offered, ticked, joined, notOffered, offerBy, offerOf, stateFits, starting, closing, notTicked, tickBy, tickOf};
+ghost use Rattle.controller.specs.Steps.{offered, ticked, offerOf, tickOf};
 
 // What the open pair stands for; its closing word is the next.
 pub enum OpenPair {
@@ -92,140 +85,14 @@ impl Controller {
         }
     }
 
-    // An accepted request goes behind those that wait.
-    fn joined(self, request: Request) -> Controller
-        requires { ⌜ self .count < 16 ⌝ }
-        ensures { λ r. ⌜ r ≡ joined self request ⌝ }
-    {
-        let config = self.config;
-        let opened = self.opened;
-        let stamps = self.stamps;
-        let count = self.count;
-        let mut waiting = self.waiting;
-        waiting[count as usize] = request;
-        Controller {
-            config,
-            clock: self.clock,
-            opened,
-            stamps,
-            waiting,
-            count: count + 1,
-        }
-    }
-
-    fn not_offered(self, why: Refusal) -> Offered
-        ensures { λ r. ⌜ offered r ≡ notOffered self (refusalNumber why) ⌝ }
-    {
-        Offered {
-            answer: CallAnswer::Refused(why),
-            controller: self,
-        }
-    }
-
-    fn offer_by(self, timing: Timing, request: Request) -> Offered
-        ensures { λ r. ⌜ offered r ≡ offerBy (value timing) self request ⌝ }
-    {
-        if !state_fits(timing, self) {
-            return self.not_offered(Refusal::State);
-        }
-        if !command::request_fits(timing, request) {
-            return self.not_offered(Refusal::Field);
-        }
-        if self.count < Controller::CAPACITY {
-            Offered {
-                answer: CallAnswer::Accepted,
-                controller: self.joined(request),
-            }
-        } else {
-            self.not_offered(Refusal::QueueFull)
-        }
-    }
-
     // Takes a request: the configuration's refusals, then 19, 26 and 27; a refusal changes nothing.
     pub fn offer(self, request: Request) -> Offered
         ensures { λ r. ⌜ offered r ≡ offerOf self request ⌝ }
     {
         let config = self.config;
         match config.timing() {
-            TimingAnswer::Refused(why) => self.not_offered(why),
-            TimingAnswer::Accepted(timing) => self.offer_by(timing, request),
-        }
-    }
-
-    // No pair is open: the first word of the one that opens, or DESL.
-    fn starting(self, timing: Timing) -> Ticked
-        requires { ⌜ self .clock < 16777216 ⌝ }
-        ensures { λ r. ⌜ ticked r ≡ starting timing self ⌝ }
-    {
-        let config = self.config;
-        let stamps = self.stamps;
-        let waiting = self.waiting;
-        let opened = opens_next(timing, self);
-        let words = words_of(timing, opened, waiting[0]);
-        Ticked {
-            answer: CallAnswer::Accepted,
-            word: words.first,
-            controller: Controller {
-                config,
-                clock: self.clock + 1,
-                opened,
-                stamps,
-                waiting,
-                count: self.count,
-            },
-        }
-    }
-
-    // A pair is open: its closing word, with which a request leaves.
-    fn closing(self, timing: Timing) -> Ticked
-        requires { ⌜ (self .clock < 16777216) × (stateFits timing self ≡ true) ⌝ }
-        ensures { λ r. ⌜ ticked r ≡ closing timing self ⌝ }
-    {
-        let config = self.config;
-        let opened = self.opened;
-        let stamps = self.stamps;
-        let waiting = self.waiting;
-        let clock = self.clock;
-        let words = words_of(timing, opened, waiting[0]);
-        let leaves = of_oldest(opened);
-        Ticked {
-            answer: CallAnswer::Accepted,
-            word: words.second,
-            controller: Controller {
-                config,
-                clock: clock + 1,
-                opened: OpenPair::Nothing,
-                stamps: stamps.remembered(clock, words.first, words.second),
-                waiting: requests_left(leaves, waiting),
-                count: count_left(leaves, self.count),
-            },
-        }
-    }
-
-    fn not_ticked(self, why: Refusal) -> Ticked
-        ensures { λ r. ⌜ ticked r ≡ notTicked self (refusalNumber why) ⌝ }
-    {
-        Ticked {
-            answer: CallAnswer::Refused(why),
-            word: 0,
-            controller: self,
-        }
-    }
-
-    fn tick_by(self, timing: Timing) -> Ticked
-        ensures { λ r. ⌜ ticked r ≡ tickBy (value timing) self ⌝ }
-    {
-        if !state_fits(timing, self) {
-            return self.not_ticked(Refusal::State);
-        }
-        if LIMIT <= self.clock {
-            return self.not_ticked(Refusal::ClockLimit);
-        }
-        let opened = self.opened;
-        if is_open(opened) {
-            self.closing(timing)
-        } else {
-            self.starting(timing)
+            TimingAnswer::Refused(why) => not_offered(self, why),
+            TimingAnswer::Accepted(timing) => offer_by(timing, self, request),
         }
     }
 
@@ -235,8 +102,8 @@ impl Controller {
     {
         let config = self.config;
         match config.timing() {
-            TimingAnswer::Refused(why) => self.not_ticked(why),
-            TimingAnswer::Accepted(timing) => self.tick_by(timing),
+            TimingAnswer::Refused(why) => not_ticked(self, why),
+            TimingAnswer::Accepted(timing) => tick_by(timing, self),
         }
     }
 }

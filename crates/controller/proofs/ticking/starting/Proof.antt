@@ -1,7 +1,7 @@
 -- The pair that opens, and its words. Assumes nothing.
 use borrow.Author.Needs.{needs}
-use Rattle.controller.proofs.Controller.starting.Statement.{statement}
-use Rattle.controller.proofs.Controller.starting.Tie as tie
+use Rattle.controller.proofs.ticking.starting.Statement.{statement}
+use Rattle.controller.proofs.ticking.starting.Tie as tie
 
 opens-next-requires : tie.Need-opens-next-requires
 opens-next-requires c κs = search needs

@@ -1,8 +1,8 @@
 -- The words of the open pair, and what is left of the queue. Assumes nothing.
 use Rattle.controller.proofs.Waiting.{oldest-waits}
 use borrow.Author.Needs.{needs}
-use Rattle.controller.proofs.Controller.closing.Statement.{statement}
-use Rattle.controller.proofs.Controller.closing.Tie as tie
+use Rattle.controller.proofs.ticking.closing.Statement.{statement}
+use Rattle.controller.proofs.ticking.closing.Tie as tie
 
 array-copy-out-words-of : tie.Need-array-copy-out-words-of
 array-copy-out-words-of c = search needs
@@ -25,7 +25,7 @@ requests-left-requires c κs = search needs
 count-left-requires : tie.Need-count-left-requires
 count-left-requires c κs =
     let a = c .before .before .before .before .before .before .before .before .args in
-    rw (c .before .before .of-oldest .ensures) (oldest-waits (a .timing) (a .self) (c .before .before .before .before .before .before .before .before .pre .1))
+    rw (c .before .before .of-oldest .ensures) (oldest-waits (a .timing) (a .controller) (c .before .before .before .before .before .before .before .before .pre .1))
 
 returns : tie.Need-returns
 returns c = rw

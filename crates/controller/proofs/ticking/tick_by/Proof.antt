@@ -2,8 +2,8 @@
 use mathlib.Core.Path.{_∙_, sym}
 use borrow.Author.Tests.{not-true, not-false, lt-ltb, le-ltb}
 use borrow.Author.Needs.{needs}
-use Rattle.controller.proofs.Controller.tick_by.Statement.{statement}
-use Rattle.controller.proofs.Controller.tick_by.Tie as tie
+use Rattle.controller.proofs.ticking.tick_by.Statement.{statement}
+use Rattle.controller.proofs.ticking.tick_by.Tie as tie
 
 state-fits-requires : tie.Need-state-fits-requires
 state-fits-requires c κs = search needs

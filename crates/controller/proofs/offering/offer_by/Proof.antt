@@ -1,8 +1,8 @@
 -- Each refusal by the first test that fails. Assumes nothing.
 use borrow.Author.Tests.{not-true, not-false, lt-ltb, le-ltb}
 use borrow.Author.Needs.{needs}
-use Rattle.controller.proofs.Controller.offer_by.Statement.{statement}
-use Rattle.controller.proofs.Controller.offer_by.Tie as tie
+use Rattle.controller.proofs.offering.offer_by.Statement.{statement}
+use Rattle.controller.proofs.offering.offer_by.Tie as tie
 
 state-fits-requires : tie.Need-state-fits-requires
 state-fits-requires c κs = search needs
