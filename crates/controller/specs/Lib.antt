@@ -1,7 +1,3 @@
--- The words that the paper lays down for a controller's ticks, with the paper's cases; and what the code's contracts say of its states.
-pub mod Laid
-pub mod Cases
+-- What the code's contracts say of a controller's states and calls.
 pub mod States
 pub mod Steps
-pub mod Runs
-pub mod Demand3

@@ -14,10 +14,10 @@ use Rattle.command.specs.declared.operation.Operation.{Operation}
 use Rattle.command.specs.declared.operation.Operation.the-variants.{Access, Regular, Extended, Refresh}
 use Rattle.protocol.specs.History.{ClosedPair, Past, nothing, extend}
 use Rattle.protocol.specs.Rules.{wasAccess}
-use Rattle.controller.specs.Laid as laid
+use Rattle.model.specs.Laid as laid
 use Rattle.controller.specs.States.{fresh}
 use Rattle.controller.specs.Steps.{held, ofOldest, offerOf, tickOf}
 use Rattle.controller.specs.declared.Controller.{Controller}
 
 pub data Call : Type 0 where
   offer : Request → Call

@@ -12,8 +12,8 @@ use Rattle.config.specs.declared.Timing.{Timing}
 use Rattle.command.specs.Writing.{requestFits}
 use Rattle.command.specs.declared.operation.Request.{Request}
 use Rattle.protocol.specs.Verdict.{accepted, judge}
-use Rattle.controller.specs.Runs.{Call, Accepted, Run, run, lay, pairsOf, requestsOf, firstWords, latestStart}
+use Rattle.model.specs.Runs.{Call, Accepted, Run, run, lay, pairsOf, requestsOf, firstWords, latestStart}
 use Rattle.controller.specs.Steps.{held, offerOf, tickOf}
 
 -- of the run r of these calls
 pub record Holds (t : Timing) (calls : List Call) (r : Run) : Type 0 where

@@ -23,19 +23,19 @@ use Rattle.protocol.proofs.Newest.{Ordered}
 use Rattle.protocol.proofs.Summary.{summary, summary-step}
 use Rattle.protocol.proofs.Words.{ordered-mono}
 use Rattle.protocol.proofs.Kept.{fits}
-use Rattle.controller.specs.Laid.{Course}
-use Rattle.controller.specs.Laid as laid
+use Rattle.model.specs.Laid.{Course}
+use Rattle.model.specs.Laid as laid
 use Rattle.controller.specs.States.{vacant}
 use Rattle.controller.specs.Steps.{Offer, allFit, wordsOf, ofOldest, stateFits, joined, notOffered, offerOf, nextPair, passes, notTicked, tickOf}
-use Rattle.controller.specs.Runs.{requestOf}
+use Rattle.model.specs.Runs.{requestOf}
 use Rattle.controller.specs.declared.Controller.{Controller}
 use Rattle.controller.specs.declared.OpenPair.{OpenPair}
 use Rattle.controller.specs.declared.OpenPair.the-variants.{Nothing, Extended, Regular, Refresh, Oldest}
-use Rattle.controller.proofs.Figures.{Figures}
-use Rattle.controller.proofs.Candidates.{AllFit, Due, candidate-due}
-use Rattle.controller.proofs.Turn.{idle, isAccess}
-use Rattle.controller.proofs.Going.{opening-due, accessOpen, leave-front, inPair, atRest, Going, between, within}
-use Rattle.controller.proofs.Image.{operationIn, pairIn, isSome, words-in, open-in, oldest-in, first-in, front, front-of, image, next-is, opens-is}
+use Rattle.model.proofs.Figures.{Figures}
+use Rattle.model.proofs.Candidates.{AllFit, Due, candidate-due}
+use Rattle.model.proofs.Turn.{idle, isAccess}
+use Rattle.model.proofs.Going.{opening-due, accessOpen, leave-front, inPair, atRest, Going, between, within}
+use Rattle.model.proofs.Image.{operationIn, pairIn, isSome, words-in, open-in, oldest-in, first-in, front, front-of, image, next-is, opens-is}
 
 all-fit : (t : Timing) (rs : List Request) → AllFit t rs → allFit t rs ≡ true
 all-fit t [] a = refl

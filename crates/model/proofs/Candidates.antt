@@ -15,9 +15,9 @@ use Rattle.command.proofs.ReadBack.{sound}
 use Rattle.command.proofs.WrittenBack.{written-back}
 use Rattle.protocol.specs.History.{Past}
 use Rattle.protocol.specs.Rules.{closings, wasExtended, wasRegular, wasRefresh}
-use Rattle.controller.specs.Laid.{orElse, startUp, refreshDue, oldestOf, candidate}
-use Rattle.controller.specs.Runs.{requestOf}
-use Rattle.controller.proofs.Figures.{Figures}
+use Rattle.model.specs.Laid.{orElse, startUp, refreshDue, oldestOf, candidate}
+use Rattle.model.specs.Runs.{requestOf}
+use Rattle.model.proofs.Figures.{Figures}
 
 -- every waiting request is in range
 abbrev pub AllFit : Timing → List Request → Type 0

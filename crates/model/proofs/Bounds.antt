@@ -17,16 +17,16 @@ use Rattle.command.specs.declared.operation.Operation.the-variants.{Access, Reg
 use Rattle.protocol.specs.History.{ClosedPair}
 use Rattle.protocol.specs.Rules.{wasRead, wasWrite, wasRefresh}
 use Rattle.protocol.proofs.Newest.{latest}
-use Rattle.controller.specs.Laid.{candidate, opening}
-use Rattle.controller.proofs.Figures.{Figures}
-use Rattle.controller.proofs.Candidates.{AllFit}
-use Rattle.controller.proofs.InTime.{lastRef, Normal}
-use Rattle.controller.proofs.Turn.{pairAt, idle, closes-with-lal}
-use Rattle.controller.proofs.StartUp.{extended, regular, pins, regular-turn, first-refresh-turn, second-refresh-turn}
-use Rattle.controller.proofs.Phases.{Phase, begin, after-extended, after-regular, after-refresh, settled}
-use Rattle.controller.proofs.Prompt.{Close, sooner, later-ref}
-use Rattle.controller.proofs.Soonest.{Pace, soonest, soonest-pace, pace-soonest, Happens, happens}
-use Rattle.controller.proofs.Punctual.{Same, Punctual, idle-punctual, access-punctual, refresh-punctual}
+use Rattle.model.specs.Laid.{candidate, opening}
+use Rattle.model.proofs.Figures.{Figures}
+use Rattle.model.proofs.Candidates.{AllFit}
+use Rattle.model.proofs.InTime.{lastRef, Normal}
+use Rattle.model.proofs.Turn.{pairAt, idle, closes-with-lal}
+use Rattle.model.proofs.StartUp.{extended, regular, pins, regular-turn, first-refresh-turn, second-refresh-turn}
+use Rattle.model.proofs.Phases.{Phase, begin, after-extended, after-regular, after-refresh, settled}
+use Rattle.model.proofs.Prompt.{Close, sooner, later-ref}
+use Rattle.model.proofs.Soonest.{Pace, soonest, soonest-pace, pace-soonest, Happens, happens}
+use Rattle.model.proofs.Punctual.{Same, Punctual, idle-punctual, access-punctual, refresh-punctual}
 
 module _ (t : Timing) (f : Figures t) (ps : List ClosedPair) (k : ℕ) where
   -- the oldest bound is met by the pair that opens, and the others hold behind it

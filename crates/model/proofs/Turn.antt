@@ -21,11 +21,11 @@ use Rattle.protocol.specs.Rules.{wasRead, wasWrite}
 use Rattle.protocol.proofs.Newest.{Ordered, latest}
 use Rattle.protocol.proofs.Summary.{summary}
 use Rattle.protocol.proofs.Words.{ordered-mono, breach-is}
-use Rattle.controller.specs.Laid.{startUp, refreshDue, oldestOf, candidate, breachless, opening}
-use Rattle.controller.proofs.Figures.{Figures}
-use Rattle.controller.proofs.Candidates.{AllFit}
-use Rattle.controller.proofs.Spacings.{InTime, RefreshFree, refresh-first, refresh-closes}
-use Rattle.controller.proofs.InTime.{lastRef, Normal, in-time, next-in-time, refresh-free, Held, after-desl, after-access, after-refresh}
+use Rattle.model.specs.Laid.{startUp, refreshDue, oldestOf, candidate, breachless, opening}
+use Rattle.model.proofs.Figures.{Figures}
+use Rattle.model.proofs.Candidates.{AllFit}
+use Rattle.model.proofs.Spacings.{InTime, RefreshFree, refresh-first, refresh-closes}
+use Rattle.model.proofs.InTime.{lastRef, Normal, in-time, next-in-time, refresh-free, Held, after-desl, after-access, after-refresh}
 
 -- the closed pair of an operation that opened at u
 abbrev pub pairAt : Timing → ℕ → Operation → ClosedPair

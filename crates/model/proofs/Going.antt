@@ -23,19 +23,19 @@ use Rattle.protocol.specs.Rules.{wasAccess, breachAt}
 use Rattle.protocol.proofs.Newest.{Ordered}
 use Rattle.protocol.proofs.Summary.{summary}
 use Rattle.protocol.proofs.Words.{ordered-mono, breach-is}
-use Rattle.controller.specs.Laid.{Course, start, candidate, breachless, opening, firstWord, leave, giving, Advance, tick, offered}
-use Rattle.controller.specs.Runs.{requestOf, requestsOf, starts}
-use Rattle.controller.proofs.Figures.{Figures}
-use Rattle.controller.proofs.Candidates.{Due, candidate-due, fits-open}
-use Rattle.controller.proofs.Spacings.{InTime, not-overdue}
-use Rattle.controller.proofs.InTime.{lastRef, next-in-time}
-use Rattle.controller.proofs.Turn.{pairAt, idle, isAccess, closes-with-lal}
-use Rattle.controller.proofs.Phases.{Phase, Next, begin, after-extended, after-regular, after-refresh, settled, phase-turn}
-use Rattle.controller.proofs.Soonest.{soonest, soonest-pace}
-use Rattle.controller.proofs.Punctual.{Punctual}
-use Rattle.controller.proofs.Bounds.{Kept, phase-kept}
-use Rattle.controller.proofs.Fulfilled.{Met, one-met, After, prompt-after, after-mono}
-use Rattle.controller.proofs.Unopened.{Queue, bound, close-later, queue-offer}
+use Rattle.model.specs.Laid.{Course, start, candidate, breachless, opening, firstWord, leave, giving, Advance, tick, offered}
+use Rattle.model.specs.Runs.{requestOf, requestsOf, starts}
+use Rattle.model.proofs.Figures.{Figures}
+use Rattle.model.proofs.Candidates.{Due, candidate-due, fits-open}
+use Rattle.model.proofs.Spacings.{InTime, not-overdue}
+use Rattle.model.proofs.InTime.{lastRef, next-in-time}
+use Rattle.model.proofs.Turn.{pairAt, idle, isAccess, closes-with-lal}
+use Rattle.model.proofs.Phases.{Phase, Next, begin, after-extended, after-regular, after-refresh, settled, phase-turn}
+use Rattle.model.proofs.Soonest.{soonest, soonest-pace}
+use Rattle.model.proofs.Punctual.{Punctual}
+use Rattle.model.proofs.Bounds.{Kept, phase-kept}
+use Rattle.model.proofs.Fulfilled.{Met, one-met, After, prompt-after, after-mono}
+use Rattle.model.proofs.Unopened.{Queue, bound, close-later, queue-offer}
 
 -- a pair that opens breaches nothing
 abbrev Passing : Timing → Past → Option Operation → Type 0

@@ -20,10 +20,10 @@ use Rattle.protocol.specs.History.{ClosedPair, Past}
 use Rattle.protocol.proofs.Summary.{summary}
 use Rattle.protocol.proofs.Words.{breach-is}
 use Rattle.protocol.proofs.Newest.{Ordered}
-use Rattle.controller.specs.Laid.{candidate, breachless, opening}
-use Rattle.controller.proofs.Figures.{Figures}
-use Rattle.controller.proofs.Spacings.{mode-closes}
-use Rattle.controller.proofs.Turn.{pairAt, idle, refresh-opens}
+use Rattle.model.specs.Laid.{candidate, breachless, opening}
+use Rattle.model.proofs.Figures.{Figures}
+use Rattle.model.proofs.Spacings.{mode-closes}
+use Rattle.model.proofs.Turn.{pairAt, idle, refresh-opens}
 
 -- a pair that may open at the limit opens there at the latest
 abbrev pub Waits : Timing → Past → Operation → ℕ → ℕ → Type 0

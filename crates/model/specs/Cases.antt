@@ -10,7 +10,7 @@ use Rattle.config.specs.Sheet.{institute, derived}
 use Rattle.config.specs.declared.Timing.{Timing}
 use Rattle.command.specs.Pins.{level}
 use Rattle.protocol.specs.Cases.{Row, row, agree, words, startUp, readAt, table as checked}
-use Rattle.controller.specs.Laid.{Course, start, tick, offered}
+use Rattle.model.specs.Laid.{Course, start, tick, offered}
 
 -- the next words are these
 abbrev pub gives : Timing → Course → List ℕ → Bool

@@ -6,8 +6,8 @@ use native.Mathlib.Omega.{arith}
 use native.Mathlib.Nat.{le-trans}
 use lib.ListN.{length, getD}
 use Rattle.config.specs.declared.Timing.{Timing}
-use Rattle.controller.proofs.Prompt.{Prompt}
-use Rattle.controller.proofs.Punctual.{meets-by}
+use Rattle.model.proofs.Prompt.{Prompt}
+use Rattle.model.proofs.Punctual.{meets-by}
 
 -- of the bounds all, the first ones are met by first words at us, and Bs are the others
 abbrev pub Met : List ℕ → List ℕ → List ℕ → Type 0

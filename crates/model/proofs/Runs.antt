@@ -20,15 +20,15 @@ use Rattle.protocol.specs.History.{Past, nothing, extend}
 use Rattle.protocol.specs.Rules.{breachAt}
 use Rattle.protocol.specs.Verdict.{Judgement, accepted, breach, lead, judgeFrom, judge}
 use Rattle.protocol.proofs.Words.{clock-is}
-use Rattle.controller.specs.Laid as laid
+use Rattle.model.specs.Laid as laid
 use Rattle.controller.specs.States.{vacant}
 use Rattle.controller.specs.Steps.{held, offerOf}
-use Rattle.controller.specs.Runs.{Call, offer, tick, Accepted, Run, called, Key, followed, ifAccepted, pastFrom, requestsOf, runFrom, layFrom}
-use Rattle.controller.proofs.Figures.{Figures}
-use Rattle.controller.proofs.Fulfilled.{Met, one-asked}
-use Rattle.controller.proofs.Unopened.{bound}
-use Rattle.controller.proofs.Going.{firstsOf, Going, tick-goes, offer-goes}
-use Rattle.controller.proofs.Represents.{Represents, refusing, offer-is, offer-represents, tick-represents, tick-ends}
+use Rattle.model.specs.Runs.{Call, offer, tick, Accepted, Run, called, Key, followed, ifAccepted, pastFrom, requestsOf, runFrom, layFrom}
+use Rattle.model.proofs.Figures.{Figures}
+use Rattle.model.proofs.Fulfilled.{Met, one-asked}
+use Rattle.model.proofs.Unopened.{bound}
+use Rattle.model.proofs.Going.{firstsOf, Going, tick-goes, offer-goes}
+use Rattle.model.proofs.Represents.{Represents, refusing, offer-is, offer-represents, tick-represents, tick-ends}
 
 -- one word more
 past-snoc : (p : Past) (ws : List ℕ) (w : ℕ) → pastFrom p (ws ++ (w ∷ [])) ≡ extend (pastFrom p ws) w

@@ -13,9 +13,9 @@ use Rattle.protocol.specs.Rules.{closings, oldest, wasRead, wasWrite, wasMode, 
 use Rattle.protocol.proofs.Newest.{Ordered, latest, latest-cons}
 use Rattle.protocol.proofs.Summary.{summary}
 use Rattle.protocol.proofs.Words.{ordered-mono}
-use Rattle.controller.proofs.Figures.{Figures}
-use Rattle.controller.proofs.Intervals.{closings-fall, eighth}
-use Rattle.controller.proofs.Spacings.{InTime, RefreshFree}
+use Rattle.model.proofs.Figures.{Figures}
+use Rattle.model.proofs.Intervals.{closings-fall, eighth}
+use Rattle.model.proofs.Spacings.{InTime, RefreshFree}
 
 -- the last REF word
 abbrev pub lastRef : List ClosedPair → ℕ

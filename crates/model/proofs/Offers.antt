@@ -11,10 +11,10 @@ use Rattle.config.specs.declared.Timing.{Timing}
 use Rattle.protocol.specs.History.{ClosedPair}
 use Rattle.protocol.specs.Rules.{wasRead, wasWrite}
 use Rattle.protocol.proofs.Newest.{latest}
-use Rattle.controller.proofs.Figures.{Figures}
-use Rattle.controller.proofs.InTime.{lastRef}
-use Rattle.controller.proofs.Prompt.{Meets}
-use Rattle.controller.proofs.Soonest.{Pace, soonest, pace-soonest}
+use Rattle.model.proofs.Figures.{Figures}
+use Rattle.model.proofs.InTime.{lastRef}
+use Rattle.model.proofs.Prompt.{Meets}
+use Rattle.model.proofs.Soonest.{Pace, soonest, pace-soonest}
 
 -- M is max(c, 201), and m is S for each request that has not opened
 module _ (t : Timing) (f : Figures t) (ps : List ClosedPair) (k M m : ℕ) (now : k ≤ M + 1) (ready : 201 ≤ M) (read : latest wasRead ps ≤ M)

@@ -15,13 +15,13 @@ use Rattle.command.specs.declared.operation.Request.{Request}
 use Rattle.protocol.specs.History.{ClosedPair}
 use Rattle.protocol.specs.Rules.{wasRead, wasWrite, wasRefresh}
 use Rattle.protocol.proofs.Newest.{Ordered, latest, latest-cons}
-use Rattle.controller.proofs.Figures.{Figures}
-use Rattle.controller.proofs.Candidates.{AllFit}
-use Rattle.controller.proofs.InTime.{lastRef}
-use Rattle.controller.proofs.Prompt.{Meets, behind, Close, meets-sooner, one-more}
-use Rattle.controller.proofs.Soonest.{soonest}
-use Rattle.controller.proofs.Punctual.{Same, Punctual}
-use Rattle.controller.proofs.Offers.{accepted-meets}
+use Rattle.model.proofs.Figures.{Figures}
+use Rattle.model.proofs.Candidates.{AllFit}
+use Rattle.model.proofs.InTime.{lastRef}
+use Rattle.model.proofs.Prompt.{Meets, behind, Close, meets-sooner, one-more}
+use Rattle.model.proofs.Soonest.{soonest}
+use Rattle.model.proofs.Punctual.{Same, Punctual}
+use Rattle.model.proofs.Offers.{accepted-meets}
 
 pub record Queue (t : Timing) (ps : List ClosedPair) (k : ℕ) (rs : List Request) (Bs : List ℕ) : Type 0 where
   pub fit : AllFit t rs

@@ -5,7 +5,7 @@ use mathlib.Core.List.{List, [], _∷_, _++_}
 use mathlib.Core.Logic.{_⊎_, inl, inr, ⊎-elim}
 use native.Mathlib.Omega.{arith}
 use Rattle.config.specs.declared.Timing.{Timing}
-use Rattle.controller.proofs.Figures.{Figures}
+use Rattle.model.proofs.Figures.{Figures}
 
 -- a request that may close at F does so by B: the next refresh, behind the REF word r, is called for after B, or there is time for it
 abbrev pub Meets : Timing → ℕ → ℕ → ℕ → Type 0

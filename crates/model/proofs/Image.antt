@@ -23,17 +23,17 @@ use Rattle.protocol.proofs.Closings.{closings-past0, nonzero, counted, oldest-c
 use Rattle.protocol.proofs.Newest.{Ordered}
 use Rattle.protocol.proofs.Summary.{summary}
 use Rattle.protocol.proofs.Words.{ordered-mono, breach-is}
-use Rattle.controller.specs.Laid.{Course, orElse, refreshDue, oldestOf, candidate, breachless, opening, firstWord}
+use Rattle.model.specs.Laid.{Course, orElse, refreshDue, oldestOf, candidate, breachless, opening, firstWord}
 use Rattle.controller.specs.States.{vacant}
 use Rattle.controller.specs.Steps.{wordsOf, isOpen, ofOldest, nextPair, passes}
 use Rattle.controller.specs.declared.Controller.{Controller}
 use Rattle.controller.specs.declared.OpenPair.{OpenPair}
 use Rattle.controller.specs.declared.OpenPair.the-variants.{Nothing, Extended, Regular, Refresh, Oldest}
-use Rattle.controller.proofs.Figures.{Figures}
-use Rattle.controller.proofs.Candidates.{Due, fits-open}
-use Rattle.controller.proofs.InTime.{lastRef}
-use Rattle.controller.proofs.Turn.{idle}
-use Rattle.controller.proofs.Going.{accessOpen}
+use Rattle.model.proofs.Figures.{Figures}
+use Rattle.model.proofs.Candidates.{Due, fits-open}
+use Rattle.model.proofs.InTime.{lastRef}
+use Rattle.model.proofs.Turn.{idle}
+use Rattle.model.proofs.Going.{accessOpen}
 
 -- what an open pair stands for
 abbrev pub operationIn : OpenPair → Request → Option Operation

@@ -16,12 +16,12 @@ use Rattle.command.specs.declared.operation.Operation.the-variants.{Access, Reg
 use Rattle.protocol.specs.History.{ClosedPair}
 use Rattle.protocol.specs.Rules.{wasRead, wasWrite}
 use Rattle.protocol.proofs.Newest.{latest}
-use Rattle.controller.specs.Laid.{startUp, refreshDue, oldestOf, candidate, breachless, opening}
-use Rattle.controller.proofs.Figures.{Figures}
-use Rattle.controller.proofs.Candidates.{AllFit}
-use Rattle.controller.proofs.InTime.{lastRef, Normal}
-use Rattle.controller.proofs.Turn.{idle, refresh-held}
-use Rattle.controller.proofs.Access.{Clear, access-opens}
+use Rattle.model.specs.Laid.{startUp, refreshDue, oldestOf, candidate, breachless, opening}
+use Rattle.model.proofs.Figures.{Figures}
+use Rattle.model.proofs.Candidates.{AllFit}
+use Rattle.model.proofs.InTime.{lastRef, Normal}
+use Rattle.model.proofs.Turn.{idle, refresh-held}
+use Rattle.model.proofs.Access.{Clear, access-opens}
 
 -- every spacing of a read or write that closes at F has run out
 pub record Pace (t : Timing) (ps : List ClosedPair) (k F : ℕ) : Type 0 where

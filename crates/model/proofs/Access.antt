@@ -24,11 +24,11 @@ use Rattle.protocol.proofs.Newest.{Ordered, latest, latest-cons}
 use Rattle.protocol.proofs.Summary.{summary, ofBank, get-bank, bank-bound}
 use Rattle.protocol.proofs.Tests.{closing-bound}
 use Rattle.protocol.proofs.Words.{ordered-mono, breach-is}
-use Rattle.controller.specs.Laid.{breachless}
-use Rattle.controller.proofs.Figures.{Figures}
-use Rattle.controller.proofs.Spacings.{AccessFree, sound-tests, sound-first, access-closes}
-use Rattle.controller.proofs.InTime.{lastRef, Normal, in-time, next-in-time}
-use Rattle.controller.proofs.Turn.{idle, closes-with-lal}
+use Rattle.model.specs.Laid.{breachless}
+use Rattle.model.proofs.Figures.{Figures}
+use Rattle.model.proofs.Spacings.{AccessFree, sound-tests, sound-first, access-closes}
+use Rattle.model.proofs.InTime.{lastRef, Normal, in-time, next-in-time}
+use Rattle.model.proofs.Turn.{idle, closes-with-lal}
 
 -- the last access of a bank is no later than the last read or the last write
 bank-latest : (b k : ℕ) (ps : List ClosedPair) → Ordered k ps

@@ -10,10 +10,10 @@ use Rattle.config.specs.declared.Timing.{Timing}
 use Rattle.command.specs.declared.operation.Request.{Request}
 use Rattle.protocol.specs.History.{ClosedPair}
 use Rattle.protocol.specs.Rules.{wasRead, wasWrite, wasRefresh}
-use Rattle.controller.proofs.Figures.{Figures}
-use Rattle.controller.proofs.InTime.{lastRef, latest-moved}
-use Rattle.controller.proofs.Prompt.{Meets, Prompt, Close, sooner, put-off}
-use Rattle.controller.proofs.Soonest.{Pace, soonest, soonest-pace, pace-soonest}
+use Rattle.model.proofs.Figures.{Figures}
+use Rattle.model.proofs.InTime.{lastRef, latest-moved}
+use Rattle.model.proofs.Prompt.{Meets, Prompt, Close, sooner, put-off}
+use Rattle.model.proofs.Soonest.{Pace, soonest, soonest-pace, pace-soonest}
 
 -- a bound for each request
 abbrev pub Same : List Request → List ℕ → Type 0

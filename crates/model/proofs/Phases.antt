@@ -15,12 +15,12 @@ use Rattle.command.specs.declared.operation.Operation.{Operation}
 use Rattle.command.specs.declared.operation.Operation.the-variants.{Regular, Extended, Refresh}
 use Rattle.protocol.specs.History.{ClosedPair}
 use Rattle.protocol.specs.Rules.{closings, wasExtended, wasRegular, wasRefresh}
-use Rattle.controller.specs.Laid.{startUp, candidate, opening}
-use Rattle.controller.proofs.Figures.{Figures}
-use Rattle.controller.proofs.Candidates.{AllFit}
-use Rattle.controller.proofs.InTime.{Normal}
-use Rattle.controller.proofs.Turn.{pairAt, idle, turn, Next as Turned}
-use Rattle.controller.proofs.StartUp.{extended, regular, pins, regular-turn, first-refresh-turn, second-refresh-turn}
+use Rattle.model.specs.Laid.{startUp, candidate, opening}
+use Rattle.model.proofs.Figures.{Figures}
+use Rattle.model.proofs.Candidates.{AllFit}
+use Rattle.model.proofs.InTime.{Normal}
+use Rattle.model.proofs.Turn.{pairAt, idle, turn, Next as Turned}
+use Rattle.model.proofs.StartUp.{extended, regular, pins, regular-turn, first-refresh-turn, second-refresh-turn}
 
 -- the start-up stays done
 abbrev present : Option Operation → Bool

@@ -16,19 +16,19 @@ use Rattle.config.proofs.Outcomes.{refused-value, same-number, refused-by}
 use Rattle.config.proofs.Accepted.{accepted, config-19}
 use Rattle.command.specs.Writing.{requestFits}
 use Rattle.command.specs.declared.operation.Request.{Request}
-use Rattle.controller.specs.Laid as laid
+use Rattle.model.specs.Laid as laid
 use Rattle.controller.specs.States.{vacant, fresh}
 use Rattle.controller.specs.Steps.{held, ofOldest, joined, notOffered, offerOf, tickOf}
-use Rattle.controller.specs.Runs.{Call, offer, tick, Accepted, Run, called, runFrom, run, Key, lay, pairsOf, requestsOf, firstWords, latestStart}
-use Rattle.controller.specs.Demand3.{Holds, Demand3}
+use Rattle.model.specs.Runs.{Call, offer, tick, Accepted, Run, called, runFrom, run, Key, lay, pairsOf, requestsOf, firstWords, latestStart}
+use Rattle.model.specs.Demand3.{Holds, Demand3}
 use Rattle.controller.specs.declared.Controller.{Controller}
 use Rattle.controller.specs.declared.OpenPair.the-variants.{Nothing}
-use Rattle.controller.proofs.Figures.{Figures, figures}
-use Rattle.controller.proofs.Fulfilled.{Met, met-at}
-use Rattle.controller.proofs.Going.{accessOpen, firstsOf, start-goes, none-passed}
-use Rattle.controller.proofs.Image.{oldest-in, front}
-use Rattle.controller.proofs.Represents.{offer-is, tick-represents, tick-ends}
-use Rattle.controller.proofs.Runs.{closingBound, Kept, all-kept}
+use Rattle.model.proofs.Figures.{Figures, figures}
+use Rattle.model.proofs.Fulfilled.{Met, met-at}
+use Rattle.model.proofs.Going.{accessOpen, firstsOf, start-goes, none-passed}
+use Rattle.model.proofs.Image.{oldest-in, front}
+use Rattle.model.proofs.Represents.{offer-is, tick-represents, tick-ends}
+use Rattle.model.proofs.Runs.{closingBound, Kept, all-kept}
 
 module _ (c : Config) (t : Timing) (is : timingOf c ≡ value t) (f : Figures t) where
   start-kept : Kept c t is f (record { words = []; accepted = []; controller = fresh c }) (record { words = []; course = laid.start })
