@@ -14,9 +14,9 @@ use Rattle.command.specs.Writing.{pairOf, requestFits}
 use Rattle.command.specs.declared.operation.Request.{Request}
 use Rattle.command.specs.declared.operation.Operation.{Operation}
 use Rattle.command.specs.declared.operation.Operation.the-variants.{Access, Regular, Extended, Refresh}
-use Rattle.protocol.specs.History.{ClosedPair}
-use Rattle.protocol.specs.Rules.{wasRead, wasWrite, wasRefresh}
-use Rattle.protocol.proofs.Newest.{latest}
+use Rattle.rules.specs.History.{ClosedPair}
+use Rattle.rules.specs.Rules.{wasRead, wasWrite, wasRefresh}
+use Rattle.rules.proofs.Newest.{latest}
 use Rattle.controller.specs.Laid.{candidate, opening}
 use Rattle.controller.proofs.Figures.{Figures}
 use Rattle.controller.proofs.Candidates.{AllFit}

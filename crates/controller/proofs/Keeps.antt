@@ -15,11 +15,11 @@ use Rattle.command.specs.Writing.{pairOf, requestFits}
 use Rattle.command.specs.declared.operation.Request.{Request}
 use Rattle.command.specs.declared.operation.Operation.{Operation}
 use Rattle.command.specs.declared.operation.Operation.the-variants.{Access, Regular, Extended, Refresh}
-use Rattle.protocol.specs.History.{ClosedPair, Past, extend}
-use Rattle.protocol.specs.Rules.{breachAt}
-use Rattle.protocol.proofs.Newest.{Ordered}
-use Rattle.protocol.proofs.Summary.{summary}
-use Rattle.protocol.proofs.Words.{ordered-mono, breach-is}
+use Rattle.rules.specs.History.{ClosedPair, Past, extend}
+use Rattle.rules.specs.Rules.{breachAt}
+use Rattle.rules.proofs.Newest.{Ordered}
+use Rattle.rules.proofs.Summary.{summary}
+use Rattle.rules.proofs.Words.{ordered-mono, breach-is}
 use Rattle.controller.specs.Laid.{Course, start, candidate, breachless, opening, firstWord, leave, giving, Ticked, tick, offered}
 use Rattle.controller.proofs.Figures.{Figures}
 use Rattle.controller.proofs.Candidates.{AllFit, Opens, candidate-opens}

@@ -13,8 +13,8 @@ use Rattle.config.specs.declared.Timing.{Timing}
 use Rattle.command.specs.declared.operation.Request.{Request}
 use Rattle.command.specs.declared.operation.Operation.{Operation}
 use Rattle.command.specs.declared.operation.Operation.the-variants.{Regular, Extended, Refresh}
-use Rattle.protocol.specs.History.{ClosedPair}
-use Rattle.protocol.specs.Rules.{closings, wasExtended, wasRegular, wasRefresh}
+use Rattle.rules.specs.History.{ClosedPair}
+use Rattle.rules.specs.Rules.{closings, wasExtended, wasRegular, wasRefresh}
 use Rattle.controller.specs.Laid.{startUp, candidate, opening}
 use Rattle.controller.proofs.Figures.{Figures}
 use Rattle.controller.proofs.Candidates.{AllFit}

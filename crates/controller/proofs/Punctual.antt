@@ -8,9 +8,9 @@ use native.Mathlib.Omega.{arith}
 use native.Mathlib.Nat.{le-trans, le-add-right}
 use Rattle.config.specs.declared.Timing.{Timing}
 use Rattle.command.specs.declared.operation.Request.{Request}
-use Rattle.protocol.specs.History.{ClosedPair}
-use Rattle.protocol.specs.Rules.{wasRead, wasWrite, wasRefresh}
-use Rattle.protocol.proofs.Newest.{latest, latest-cons}
+use Rattle.rules.specs.History.{ClosedPair}
+use Rattle.rules.specs.Rules.{wasRead, wasWrite, wasRefresh}
+use Rattle.rules.proofs.Newest.{latest, latest-cons}
 use Rattle.controller.proofs.Figures.{Figures}
 use Rattle.controller.proofs.InTime.{lastRef}
 use Rattle.controller.proofs.Prompt.{Meets, Prompt, Close, sooner, put-off}

@@ -1,7 +1,7 @@
 // The controller: it keeps requests waiting and gives the words of its ticks.
 use command::Request;
 use config::Config;
-use protocol::Timestamps;
+use rules::Timestamps;
 ghost use mathlib.Core.Path.{_≡_};
 ghost use Rattle.controller.specs.States.{fresh};
 
