@@ -3,5 +3,3 @@ pub mod Pins
 pub mod Reading
 pub mod Writing
 pub mod Answers
-pub mod Ignored
-pub mod RoundTrip

@@ -12,9 +12,9 @@ use Rattle.command.specs.Writing.{pairOf, requestFits}
 use Rattle.command.specs.declared.operation.Request.{Request}
 use Rattle.command.specs.declared.operation.Pair.{Pair}
 use Rattle.command.specs.declared.operation.Operation.the-variants.{Access, Regular as RegularMode, Extended as ExtendedMode, Refresh as Refreshing}
-use Rattle.protocol.specs.Stamps.{wordBreach, remembered}
+use Rattle.rules.specs.Stamps.{wordBreach, remembered}
 use Rattle.protocol.specs.Steps.{clockFits}
-use Rattle.protocol.specs.declared.stamps.Timestamps.{Timestamps}
+use Rattle.rules.specs.declared.stamps.Timestamps.{Timestamps}
 use Rattle.controller.specs.States.{vacant}
 use Rattle.controller.specs.declared.Controller.{Controller}
 use Rattle.controller.specs.declared.OpenPair.{OpenPair}

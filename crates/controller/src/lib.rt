@@ -11,7 +11,7 @@ use config::Refusal;
 use config::TimingAnswer;
 use offering::not_offered;
 use offering::offer_by;
-use protocol::Timestamps;
+use rules::Timestamps;
 use ticking::not_ticked;
 use ticking::tick_by;
 ghost use mathlib.Core.Path.{_≡_};

@@ -5,8 +5,8 @@ use command::Operation;
 use command::Pair;
 use command::Request;
 use config::Timing;
-use protocol::DESL;
-use protocol::Timestamps;
+use rules::DESL;
+use rules::Timestamps;
 ghost use mathlib.Core.Path.{_≡_};
 ghost use Prim.Native.Nat.{_+_, _<_};
 ghost use lib.Dec.{leb};
@@ -62,8 +62,8 @@ fn passes(timing: Timing, stamps: Timestamps, clock: u32, pair: Pair) -> bool
     requires { ⌜ clock < 16777216 ⌝ }
     ensures { λ r. ⌜ r ≡ passes timing stamps clock pair ⌝ }
 {
-    let first = protocol::word_breach(timing, stamps, clock, DESL, pair.first);
-    let second = protocol::word_breach(timing, stamps, clock + 1, pair.first, pair.second);
+    let first = rules::word_breach(timing, stamps, clock, DESL, pair.first);
+    let second = rules::word_breach(timing, stamps, clock + 1, pair.first, pair.second);
     (first == 0) & (second == 0)
 }
 

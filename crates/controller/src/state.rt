@@ -3,7 +3,7 @@ use crate::Controller;
 use crate::OpenPair;
 use command::Request;
 use config::Timing;
-use protocol::DESL;
+use rules::DESL;
 ghost use mathlib.Core.Path.{_≡_};
 ghost use Prim.Native.Nat.{_≤_};
 ghost use lib.ListN.{take};

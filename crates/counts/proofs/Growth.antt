@@ -9,10 +9,10 @@ use native.Mathlib.Nat.{add-zero, add-comm}
 use borrow.Author.Tests.{not-true}
 use Rattle.command.specs.Pins.{high, level}
 use Rattle.command.specs.Reading.{opens, isRead, isWrite, isMode, isRefresh}
-use Rattle.protocol.specs.History.{ClosedPair, Past, nothing, extend, extendBy}
-use Rattle.protocol.specs.Rules.{wasRead, wasWrite, wasMode, wasRefresh}
-use Rattle.protocol.specs.Stamps.{nextFirst}
-use Rattle.protocol.proofs.Words.{firstOf, Regular, regular-extend, first-is}
+use Rattle.rules.specs.History.{ClosedPair, Past, nothing, extend, extendBy}
+use Rattle.rules.specs.Rules.{wasRead, wasWrite, wasMode, wasRefresh}
+use Rattle.rules.specs.Stamps.{nextFirst}
+use Rattle.rules.proofs.Words.{firstOf, Regular, regular-extend, first-is}
 use Rattle.counts.specs.Counts.{pastFrom, count, deslAt, deslsFrom, countsOf}
 use Rattle.counts.specs.Turn.{counted}
 

@@ -9,8 +9,8 @@ use lib.Dec.{leb}
 use Rattle.config.specs.Numbers.{refusalNumber}
 use Rattle.command.specs.Pins.{level}
 use Rattle.command.specs.Reading.{opens}
-use Rattle.protocol.specs.History.{ClosedPair, Past, nothing, extend}
-use Rattle.protocol.specs.Rules.{wasRead, wasWrite, wasMode, wasRefresh}
+use Rattle.rules.specs.History.{ClosedPair, Past, nothing, extend}
+use Rattle.rules.specs.Rules.{wasRead, wasWrite, wasMode, wasRefresh}
 use Rattle.counts.specs.declared.CommandCounts.{CommandCounts}
 use Rattle.counts.specs.declared.CountsAnswer.{CountsAnswer}
 use Rattle.counts.specs.declared.CountsAnswer.the-variants.{Counted, Refused}

@@ -14,10 +14,10 @@ use Rattle.config.specs.declared.Config.{Config}
 use Rattle.config.specs.declared.Timing.{Timing}
 use Rattle.words.specs.Words.{wordsOf}
 use Rattle.words.proofs.Listed.{words-length}
-use Rattle.protocol.specs.History.{Past, nothing, extend}
-use Rattle.protocol.specs.Rules.{lowest, rules, breachAt}
-use Rattle.protocol.specs.Verdict.{Judgement, lead, judgeFrom, judge, checkBytesOf}
-use Rattle.protocol.proofs.Words.{clock-is}
+use Rattle.rules.specs.History.{Past, nothing, extend}
+use Rattle.rules.specs.Rules.{lowest, rules, breachAt}
+use Rattle.rules.specs.Verdict.{Judgement, lead, judgeFrom, judge, checkBytesOf}
+use Rattle.rules.proofs.Words.{clock-is}
 use Rattle.fcram.specs.Number.{Small}
 
 lowest-bound : (n : ℕ) (bs : List Bool) → lowest n bs ≤ n + length bs

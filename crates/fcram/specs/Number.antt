@@ -2,7 +2,7 @@
 use Prim.Native.Nat.{ℕ, _+_, _*_, _<_}
 use Rattle.config.specs.Outcome.{Outcome, value, refused}
 use Rattle.config.specs.declared.Config.{Config}
-use Rattle.protocol.specs.Verdict.{Judgement, accepted, breach}
+use Rattle.rules.specs.Verdict.{Judgement, accepted, breach}
 
 abbrev pub numberOf : Outcome Judgement → ℕ
 numberOf (value accepted) = 0

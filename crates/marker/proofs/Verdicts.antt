@@ -7,7 +7,7 @@ use lib.ListN.{length}
 use Rattle.config.specs.Outcome.{Outcome}
 use Rattle.config.specs.Sheet.{institute}
 use Rattle.config.specs.declared.Config.{Config}
-use Rattle.protocol.specs.Verdict.{Judgement, checkBytesOf}
+use Rattle.rules.specs.Verdict.{Judgement, checkBytesOf}
 use Rattle.marker.specs.Mark.{markOf, lineBy, lineOf}
 
 pub line-is : (bytes : List ℕ) (o : Outcome Judgement) → length bytes ≤ 65536 → checkBytesOf institute bytes ≡ o

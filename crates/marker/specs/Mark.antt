@@ -6,7 +6,7 @@ use lib.ListN.{length}
 use lib.Dec.{leb}
 use Rattle.config.specs.Outcome.{Outcome, value, refused, require}
 use Rattle.config.specs.Sheet.{institute}
-use Rattle.protocol.specs.Verdict.{Judgement, accepted, breach, checkBytesOf}
+use Rattle.rules.specs.Verdict.{Judgement, accepted, breach, checkBytesOf}
 use Rattle.marker.specs.Text.{decimal}
 
 -- "Program: 25 more than 65,536 bytes; 29 bytes not a multiple of four."

@@ -16,14 +16,14 @@ use Rattle.command.specs.Reading.{lal}
 use Rattle.command.specs.Writing.{pairOf, requestFits}
 use Rattle.command.specs.declared.operation.Request.{Request}
 use Rattle.command.specs.declared.operation.Operation.the-variants.{Access}
-use Rattle.command.proofs.WrittenBack.{written-back}
-use Rattle.protocol.specs.History.{ClosedPair}
-use Rattle.protocol.specs.Rules.{bankOf, closings, wasRead, wasWrite, wasRegular, wasRefresh}
-use Rattle.protocol.specs.Stamps.{notReady}
-use Rattle.protocol.proofs.Newest.{Ordered, latest, latest-cons}
-use Rattle.protocol.proofs.Summary.{summary, ofBank, get-bank, bank-bound}
-use Rattle.protocol.proofs.Tests.{closing-bound}
-use Rattle.protocol.proofs.Words.{ordered-mono, breach-is}
+use Rattle.roundtrip.proofs.WrittenBack.{written-back}
+use Rattle.rules.specs.History.{ClosedPair}
+use Rattle.rules.specs.Rules.{bankOf, closings, wasRead, wasWrite, wasRegular, wasRefresh}
+use Rattle.rules.specs.Stamps.{notReady}
+use Rattle.rules.proofs.Newest.{Ordered, latest, latest-cons}
+use Rattle.rules.proofs.Summary.{summary, ofBank, get-bank, bank-bound}
+use Rattle.rules.proofs.Tests.{closing-bound}
+use Rattle.rules.proofs.Words.{ordered-mono, breach-is}
 use Rattle.model.specs.Laid.{breachless}
 use Rattle.model.proofs.Figures.{Figures}
 use Rattle.model.proofs.Spacings.{AccessFree, sound-tests, sound-first, access-closes}

@@ -11,10 +11,10 @@ use Rattle.command.specs.Writing.{pairOf, operationFits, requestFits}
 use Rattle.command.specs.declared.operation.Request.{Request}
 use Rattle.command.specs.declared.operation.Operation.{Operation}
 use Rattle.command.specs.declared.operation.Operation.the-variants.{Regular, Extended, Refresh}
-use Rattle.command.proofs.ReadBack.{sound}
-use Rattle.command.proofs.WrittenBack.{written-back}
-use Rattle.protocol.specs.History.{Past}
-use Rattle.protocol.specs.Rules.{closings, wasExtended, wasRegular, wasRefresh}
+use Rattle.roundtrip.proofs.ReadBack.{sound}
+use Rattle.roundtrip.proofs.WrittenBack.{written-back}
+use Rattle.rules.specs.History.{Past}
+use Rattle.rules.specs.Rules.{closings, wasExtended, wasRegular, wasRefresh}
 use Rattle.model.specs.Laid.{orElse, startUp, refreshDue, oldestOf, candidate}
 use Rattle.model.specs.Runs.{requestOf}
 use Rattle.model.proofs.Figures.{Figures}

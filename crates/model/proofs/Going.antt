@@ -17,12 +17,12 @@ use Rattle.command.specs.Writing.{pairOf, requestFits, operationFits}
 use Rattle.command.specs.declared.operation.Request.{Request}
 use Rattle.command.specs.declared.operation.Operation.{Operation}
 use Rattle.command.specs.declared.operation.Operation.the-variants.{Access, Regular, Extended, Refresh}
-use Rattle.command.proofs.WrittenBack.{written-back}
-use Rattle.protocol.specs.History.{ClosedPair, Past, extend}
-use Rattle.protocol.specs.Rules.{wasAccess, breachAt}
-use Rattle.protocol.proofs.Newest.{Ordered}
-use Rattle.protocol.proofs.Summary.{summary}
-use Rattle.protocol.proofs.Words.{ordered-mono, breach-is}
+use Rattle.roundtrip.proofs.WrittenBack.{written-back}
+use Rattle.rules.specs.History.{ClosedPair, Past, extend}
+use Rattle.rules.specs.Rules.{wasAccess, breachAt}
+use Rattle.rules.proofs.Newest.{Ordered}
+use Rattle.rules.proofs.Summary.{summary}
+use Rattle.rules.proofs.Words.{ordered-mono, breach-is}
 use Rattle.model.specs.Laid.{Course, start, candidate, breachless, opening, firstWord, leave, giving, Advance, tick, offered}
 use Rattle.model.specs.Runs.{requestOf, requestsOf, starts}
 use Rattle.model.proofs.Figures.{Figures}

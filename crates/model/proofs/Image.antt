@@ -17,12 +17,12 @@ use Rattle.command.specs.declared.operation.Request.{Request}
 use Rattle.command.specs.declared.operation.Pair.{Pair}
 use Rattle.command.specs.declared.operation.Operation.{Operation}
 use Rattle.command.specs.declared.operation.Operation.the-variants.{Access, Regular as RegularMode, Extended as ExtendedMode, Refresh as Refreshing}
-use Rattle.protocol.specs.History.{ClosedPair, Past, extend}
-use Rattle.protocol.specs.Rules.{closings, wasExtended, wasRegular, wasRefresh, breachAt}
-use Rattle.protocol.proofs.Closings.{closings-past0, nonzero, counted, oldest-counted}
-use Rattle.protocol.proofs.Newest.{Ordered}
-use Rattle.protocol.proofs.Summary.{summary}
-use Rattle.protocol.proofs.Words.{ordered-mono, breach-is}
+use Rattle.rules.specs.History.{ClosedPair, Past, extend}
+use Rattle.rules.specs.Rules.{closings, wasExtended, wasRegular, wasRefresh, breachAt}
+use Rattle.rules.proofs.Closings.{closings-past0, nonzero, counted, oldest-counted}
+use Rattle.rules.proofs.Newest.{Ordered}
+use Rattle.rules.proofs.Summary.{summary}
+use Rattle.rules.proofs.Words.{ordered-mono, breach-is}
 use Rattle.model.specs.Laid.{Course, orElse, refreshDue, oldestOf, candidate, breachless, opening, firstWord}
 use Rattle.controller.specs.States.{vacant}
 use Rattle.controller.specs.Steps.{wordsOf, isOpen, ofOldest, nextPair, passes}

@@ -8,11 +8,11 @@ use mathlib.Core.Logic.{_⊎_, inl, inr, ⊎-elim}
 use native.Mathlib.Omega.{arith}
 use lib.ListN.{getD}
 use Rattle.config.specs.declared.Timing.{Timing}
-use Rattle.protocol.specs.History.{ClosedPair}
-use Rattle.protocol.specs.Rules.{closings, oldest, wasRead, wasWrite, wasMode, wasRegular, wasExtended, wasRefresh}
-use Rattle.protocol.proofs.Newest.{Ordered, latest, latest-cons}
-use Rattle.protocol.proofs.Summary.{summary}
-use Rattle.protocol.proofs.Words.{ordered-mono}
+use Rattle.rules.specs.History.{ClosedPair}
+use Rattle.rules.specs.Rules.{closings, oldest, wasRead, wasWrite, wasMode, wasRegular, wasExtended, wasRefresh}
+use Rattle.rules.proofs.Newest.{Ordered, latest, latest-cons}
+use Rattle.rules.proofs.Summary.{summary}
+use Rattle.rules.proofs.Words.{ordered-mono}
 use Rattle.model.proofs.Figures.{Figures}
 use Rattle.model.proofs.Intervals.{closings-fall, eighth}
 use Rattle.model.proofs.Spacings.{InTime, RefreshFree}

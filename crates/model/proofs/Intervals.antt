@@ -6,10 +6,10 @@ use mathlib.Core.List.{List, [], _∷_}
 use mathlib.Core.Logic.{_⊎_, inl, inr}
 use native.Mathlib.Omega.{arith}
 use lib.ListN.{getD}
-use Rattle.protocol.specs.History.{ClosedPair}
-use Rattle.protocol.specs.Rules.{closings}
-use Rattle.protocol.proofs.Newest.{Ordered}
-use Rattle.protocol.proofs.Tests.{closing-bound}
+use Rattle.rules.specs.History.{ClosedPair}
+use Rattle.rules.specs.Rules.{closings}
+use Rattle.rules.proofs.Newest.{Ordered}
+use Rattle.rules.proofs.Tests.{closing-bound}
 
 -- each clock of a list is before the one in front of it
 abbrev pub Falling : List ℕ → Type 0

@@ -8,9 +8,9 @@ use native.Mathlib.Omega.{arith}
 use borrow.Author.Tests.{leb-true, leb-false}
 use lib.Dec.{leb}
 use Rattle.config.specs.declared.Timing.{Timing}
-use Rattle.protocol.specs.History.{ClosedPair}
-use Rattle.protocol.specs.Rules.{wasRead, wasWrite}
-use Rattle.protocol.proofs.Newest.{latest}
+use Rattle.rules.specs.History.{ClosedPair}
+use Rattle.rules.specs.Rules.{wasRead, wasWrite}
+use Rattle.rules.proofs.Newest.{latest}
 use Rattle.model.proofs.Figures.{Figures}
 use Rattle.model.proofs.InTime.{lastRef}
 use Rattle.model.proofs.Prompt.{Meets}

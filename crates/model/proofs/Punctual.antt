@@ -8,8 +8,8 @@ use native.Mathlib.Omega.{arith}
 use native.Mathlib.Nat.{le-trans, le-add-right}
 use Rattle.config.specs.declared.Timing.{Timing}
 use Rattle.command.specs.declared.operation.Request.{Request}
-use Rattle.protocol.specs.History.{ClosedPair}
-use Rattle.protocol.specs.Rules.{wasRead, wasWrite, wasRefresh}
+use Rattle.rules.specs.History.{ClosedPair}
+use Rattle.rules.specs.Rules.{wasRead, wasWrite, wasRefresh}
 use Rattle.model.proofs.Figures.{Figures}
 use Rattle.model.proofs.InTime.{lastRef, latest-moved}
 use Rattle.model.proofs.Prompt.{Meets, Prompt, Close, sooner, put-off}

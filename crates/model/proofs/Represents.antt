@@ -17,11 +17,11 @@ use Rattle.command.specs.Writing.{pairOf, requestFits, operationFits}
 use Rattle.command.specs.declared.operation.Request.{Request}
 use Rattle.command.specs.declared.operation.Operation.{Operation}
 use Rattle.command.specs.declared.operation.Operation.the-variants.{Access, Regular as RegularMode, Extended as ExtendedMode, Refresh as Refreshing}
-use Rattle.protocol.specs.History.{ClosedPair}
-use Rattle.protocol.specs.Stamps.{remembered}
-use Rattle.protocol.proofs.Newest.{Ordered}
-use Rattle.protocol.proofs.Summary.{summary, summary-step}
-use Rattle.protocol.proofs.Words.{ordered-mono}
+use Rattle.rules.specs.History.{ClosedPair}
+use Rattle.rules.specs.Stamps.{remembered}
+use Rattle.rules.proofs.Newest.{Ordered}
+use Rattle.rules.proofs.Summary.{summary, summary-step}
+use Rattle.rules.proofs.Words.{ordered-mono}
 use Rattle.protocol.proofs.Kept.{fits}
 use Rattle.model.specs.Laid.{Course}
 use Rattle.model.specs.Laid as laid

@@ -16,10 +16,10 @@ use Rattle.config.specs.declared.Timing.{Timing}
 use Rattle.command.specs.Writing.{requestFits}
 use Rattle.command.specs.declared.operation.Request.{Request}
 use Rattle.command.specs.declared.operation.Operation.{Operation}
-use Rattle.protocol.specs.History.{Past, nothing, extend}
-use Rattle.protocol.specs.Rules.{breachAt}
-use Rattle.protocol.specs.Verdict.{Judgement, accepted, breach, lead, judgeFrom, judge}
-use Rattle.protocol.proofs.Words.{clock-is}
+use Rattle.rules.specs.History.{Past, nothing, extend}
+use Rattle.rules.specs.Rules.{breachAt}
+use Rattle.rules.specs.Verdict.{Judgement, accepted, breach, lead, judgeFrom, judge}
+use Rattle.rules.proofs.Words.{clock-is}
 use Rattle.model.specs.Laid as laid
 use Rattle.controller.specs.States.{vacant}
 use Rattle.controller.specs.Steps.{held, offerOf}

@@ -9,8 +9,8 @@ use Rattle.config.specs.declared.Timing.{Timing}
 use Rattle.config.proofs.Bounds.{both}
 use Rattle.command.specs.Pins.{high, strayBit}
 use Rattle.command.specs.Reading.{rda, lal, modeWrong, laneReserved, soundPair}
-use Rattle.protocol.specs.Stamps.{near, overdue, bankStamp, notReady, wordBreach}
-use Rattle.protocol.specs.declared.stamps.Timestamps.{Timestamps}
+use Rattle.rules.specs.Stamps.{near, overdue, bankStamp, notReady, wordBreach}
+use Rattle.rules.specs.declared.stamps.Timestamps.{Timestamps}
 
 -- the spacing n behind an event at c, if there was one, has run out by k
 abbrev pub Over : ℕ → ℕ → ℕ → Type 0

@@ -15,11 +15,11 @@ use Rattle.command.specs.Writing.{pairOf}
 use Rattle.command.specs.declared.operation.Request.{Request}
 use Rattle.command.specs.declared.operation.Operation.{Operation}
 use Rattle.command.specs.declared.operation.Operation.the-variants.{Access, Regular, Extended, Refresh}
-use Rattle.command.proofs.WrittenBack.{written-back}
-use Rattle.protocol.specs.History.{ClosedPair, Past}
-use Rattle.protocol.proofs.Summary.{summary}
-use Rattle.protocol.proofs.Words.{breach-is}
-use Rattle.protocol.proofs.Newest.{Ordered}
+use Rattle.roundtrip.proofs.WrittenBack.{written-back}
+use Rattle.rules.specs.History.{ClosedPair, Past}
+use Rattle.rules.proofs.Summary.{summary}
+use Rattle.rules.proofs.Words.{breach-is}
+use Rattle.rules.proofs.Newest.{Ordered}
 use Rattle.model.specs.Laid.{candidate, breachless, opening}
 use Rattle.model.proofs.Figures.{Figures}
 use Rattle.model.proofs.Spacings.{mode-closes}

@@ -15,12 +15,12 @@ use Rattle.command.specs.Writing.{pairOf, operationFits}
 use Rattle.command.specs.declared.operation.Request.{Request}
 use Rattle.command.specs.declared.operation.Operation.{Operation}
 use Rattle.command.specs.declared.operation.Operation.the-variants.{Access, Regular, Extended, Refresh}
-use Rattle.command.proofs.WrittenBack.{written-back}
-use Rattle.protocol.specs.History.{ClosedPair, Past}
-use Rattle.protocol.specs.Rules.{wasRead, wasWrite}
-use Rattle.protocol.proofs.Newest.{Ordered, latest}
-use Rattle.protocol.proofs.Summary.{summary}
-use Rattle.protocol.proofs.Words.{ordered-mono, breach-is}
+use Rattle.roundtrip.proofs.WrittenBack.{written-back}
+use Rattle.rules.specs.History.{ClosedPair, Past}
+use Rattle.rules.specs.Rules.{wasRead, wasWrite}
+use Rattle.rules.proofs.Newest.{Ordered, latest}
+use Rattle.rules.proofs.Summary.{summary}
+use Rattle.rules.proofs.Words.{ordered-mono, breach-is}
 use Rattle.model.specs.Laid.{startUp, refreshDue, oldestOf, candidate, breachless, opening}
 use Rattle.model.proofs.Figures.{Figures}
 use Rattle.model.proofs.Candidates.{AllFit}

@@ -12,9 +12,9 @@ use lib.Dec.{leb}
 use Rattle.config.specs.declared.Timing.{Timing}
 use Rattle.command.specs.Writing.{requestFits}
 use Rattle.command.specs.declared.operation.Request.{Request}
-use Rattle.protocol.specs.History.{ClosedPair}
-use Rattle.protocol.specs.Rules.{wasRead, wasWrite, wasRefresh}
-use Rattle.protocol.proofs.Newest.{Ordered, latest, latest-cons}
+use Rattle.rules.specs.History.{ClosedPair}
+use Rattle.rules.specs.Rules.{wasRead, wasWrite, wasRefresh}
+use Rattle.rules.proofs.Newest.{Ordered, latest, latest-cons}
 use Rattle.model.proofs.Figures.{Figures}
 use Rattle.model.proofs.Candidates.{AllFit}
 use Rattle.model.proofs.InTime.{lastRef}

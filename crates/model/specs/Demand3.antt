@@ -11,7 +11,7 @@ use Rattle.config.specs.declared.Config.{Config}
 use Rattle.config.specs.declared.Timing.{Timing}
 use Rattle.command.specs.Writing.{requestFits}
 use Rattle.command.specs.declared.operation.Request.{Request}
-use Rattle.protocol.specs.Verdict.{accepted, judge}
+use Rattle.rules.specs.Verdict.{accepted, judge}
 use Rattle.model.specs.Runs.{Call, Accepted, Run, run, lay, pairsOf, requestsOf, firstWords, latestStart}
 use Rattle.controller.specs.Steps.{held, offerOf, tickOf}
 

@@ -12,8 +12,8 @@ use Rattle.command.specs.declared.operation.Request.{Request}
 use Rattle.command.specs.declared.operation.Pair.{Pair}
 use Rattle.command.specs.declared.operation.Operation.{Operation}
 use Rattle.command.specs.declared.operation.Operation.the-variants.{Access, Regular, Extended, Refresh}
-use Rattle.protocol.specs.History.{ClosedPair, Past, nothing, extend}
-use Rattle.protocol.specs.Rules.{closings, wasExtended, wasRegular, wasRefresh, breachAt}
+use Rattle.rules.specs.History.{ClosedPair, Past, nothing, extend}
+use Rattle.rules.specs.Rules.{closings, wasExtended, wasRegular, wasRefresh, breachAt}
 
 -- how far a list of calls has come: the words given, as a past; what the open pair stands for; the requests waiting, oldest first
 pub record Course : Type 0 where

@@ -12,8 +12,8 @@ use Rattle.command.specs.Writing.{requestFits}
 use Rattle.command.specs.declared.operation.Request.{Request}
 use Rattle.command.specs.declared.operation.Operation.{Operation}
 use Rattle.command.specs.declared.operation.Operation.the-variants.{Access, Regular, Extended, Refresh}
-use Rattle.protocol.specs.History.{ClosedPair, Past, nothing, extend}
-use Rattle.protocol.specs.Rules.{wasAccess}
+use Rattle.rules.specs.History.{ClosedPair, Past, nothing, extend}
+use Rattle.rules.specs.Rules.{wasAccess}
 use Rattle.model.specs.Laid as laid
 use Rattle.controller.specs.States.{fresh}
 use Rattle.controller.specs.Steps.{held, ofOldest, offerOf, tickOf}

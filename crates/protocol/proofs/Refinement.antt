@@ -14,15 +14,15 @@ use Rattle.config.specs.declared.Config.{Config}
 use Rattle.config.specs.declared.Timing.{Timing}
 use Rattle.config.proofs.Outcomes.{refused-value, same-number, refused-by}
 use Rattle.config.proofs.Accepted.{config-19}
-use Rattle.protocol.specs.History.{ClosedPair, Past, extendBy}
-use Rattle.protocol.specs.Verdict.{Judgement, accepted, breach, judge}
-use Rattle.protocol.specs.Stamps.{wordBreach, nextStamps, nextFirst}
+use Rattle.rules.specs.History.{ClosedPair, Past, extendBy}
+use Rattle.rules.specs.Verdict.{Judgement, accepted, breach, judge}
+use Rattle.rules.specs.Stamps.{wordBreach, nextStamps, nextFirst}
 use Rattle.protocol.specs.Steps.{Step, fresh, clockFits, judged, stepBy, stepOf}
 use Rattle.protocol.specs.Refinement.{follow, stepping, afterAll, Refinement}
-use Rattle.protocol.specs.declared.stamps.Timestamps.{Timestamps}
+use Rattle.rules.specs.declared.stamps.Timestamps.{Timestamps}
 use Rattle.protocol.specs.declared.checker.Checker.{Checker}
-use Rattle.protocol.proofs.Summary.{summary}
-use Rattle.protocol.proofs.Words.{firstOf, Regular, regular-extend, stamps-is, first-is, clock-is, run, run-is}
+use Rattle.rules.proofs.Summary.{summary}
+use Rattle.rules.proofs.Words.{firstOf, Regular, regular-extend, stamps-is, first-is, clock-is, run, run-is}
 use Rattle.protocol.proofs.Kept.{fits}
 
 -- a state with no breach recorded

@@ -11,7 +11,7 @@ use Rattle.config.specs.declared.Config.{Config}
 use Rattle.command.specs.Writing.{writePair}
 use Rattle.command.specs.declared.operation.Operation.the-variants.{Access}
 use Rattle.command.specs.declared.operation.Pair.{Pair}
-use Rattle.protocol.specs.Verdict.{Judgement, accepted, breach, checkOf}
+use Rattle.rules.specs.Verdict.{Judgement, accepted, breach, checkOf}
 
 -- a pair at a clock
 pub record At : Type 0 where

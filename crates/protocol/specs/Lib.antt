@@ -1,9 +1,4 @@
--- The published rules (History, Rules, Verdict) with the paper's cases; and apart from them what the code's contracts say of
--- bounded states (Stamps, Steps), which the theorem of Refinement joins to the rules.
-pub mod History
-pub mod Rules
-pub mod Verdict
+-- The paper's cases; what the contracts say of the checker's states (Steps); and what joins these to the published rules (Refinement).
 pub mod Cases
-pub mod Stamps
 pub mod Steps
 pub mod Refinement

@@ -7,7 +7,7 @@ use Rattle.config.specs.Outcome.{Outcome, value, refused}
 use Rattle.config.specs.Sheet.{timingOf}
 use Rattle.config.specs.declared.Config.{Config}
 use Rattle.config.specs.declared.Timing.{Timing}
-use Rattle.protocol.specs.Verdict.{Judgement, accepted, breach, judge}
+use Rattle.rules.specs.Verdict.{Judgement, accepted, breach, judge}
 use Rattle.protocol.specs.Steps.{fresh, stepOf}
 use Rattle.protocol.specs.declared.checker.Checker.{Checker}
 

@@ -10,9 +10,9 @@ use Rattle.config.specs.Sheet.{timingOf}
 use Rattle.config.specs.declared.Config.{Config}
 use Rattle.config.specs.declared.Timing.{Timing}
 use Rattle.command.specs.Reading.{opens}
-use Rattle.protocol.specs.Verdict.{Judgement, accepted, breach}
-use Rattle.protocol.specs.Stamps.{wordBreach, nextStamps, nextFirst, never}
-use Rattle.protocol.specs.declared.stamps.Timestamps.{Timestamps}
+use Rattle.rules.specs.Verdict.{Judgement, accepted, breach}
+use Rattle.rules.specs.Stamps.{wordBreach, nextStamps, nextFirst, never}
+use Rattle.rules.specs.declared.stamps.Timestamps.{Timestamps}
 use Rattle.protocol.specs.declared.checker.Breach.{Breach}
 use Rattle.protocol.specs.declared.checker.Checker.{Checker}
 use Rattle.protocol.specs.declared.checker.Stepped.{Stepped}

@@ -2,21 +2,21 @@
 use crate::checker::Breach;
 use crate::checker::LIMIT;
 use crate::checker::Verdict;
-use crate::rules::word_breach;
-use crate::stamps::DESL;
-use crate::stamps::Timestamps;
-use crate::stamps::next_first;
 use command::pins::CS;
 use config::Config;
 use config::Refusal;
 use config::Timing;
 use config::TimingAnswer;
+use rules::DESL;
+use rules::Timestamps;
+use rules::next_first;
+use rules::word_breach;
 ghost use mathlib.Core.Path.{_≡_};
 ghost use Prim.Native.Nat.{_≤_, _/_};
 ghost use lib.ListN.{length};
 ghost use Rattle.config.specs.Outcome.{value};
 ghost use Rattle.words.specs.Words.{wordsOf};
-ghost use Rattle.protocol.specs.Verdict.{judge, checkBytesOf};
+ghost use Rattle.rules.specs.Verdict.{judge, checkBytesOf};
 ghost use Rattle.protocol.specs.Steps.{verdictOutcome};
 
 fn judged_bytes(timing: Timing, bytes: &[u8]) -> Verdict

@@ -1,13 +1,13 @@
 // The checker (the paper's examiner): a state that takes one word after the other.
-use crate::rules::word_breach;
-use crate::stamps::DESL;
-use crate::stamps::Timestamps;
-use crate::stamps::next_first;
 use command::pins::CS;
 use config::Config;
 use config::Refusal;
 use config::Timing;
 use config::TimingAnswer;
+use rules::DESL;
+use rules::Timestamps;
+use rules::next_first;
+use rules::word_breach;
 ghost use mathlib.Core.Path.{_≡_};
 ghost use Prim.Native.Nat.{_<_};
 ghost use Rattle.protocol.specs.Steps.{eightBefore, stampsBefore, clockFits, fresh, stepped, judged, stepBy, stepOf};

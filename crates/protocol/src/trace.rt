@@ -2,20 +2,20 @@
 use crate::checker::Breach;
 use crate::checker::LIMIT;
 use crate::checker::Verdict;
-use crate::rules::word_breach;
-use crate::stamps::DESL;
-use crate::stamps::Timestamps;
-use crate::stamps::next_first;
 use command::pins::CS;
 use config::Config;
 use config::Refusal;
 use config::Timing;
 use config::TimingAnswer;
+use rules::DESL;
+use rules::Timestamps;
+use rules::next_first;
+use rules::word_breach;
 ghost use mathlib.Core.Path.{_≡_};
 ghost use Prim.Native.Nat.{_≤_};
 ghost use lib.ListN.{length};
 ghost use Rattle.config.specs.Outcome.{value};
-ghost use Rattle.protocol.specs.Verdict.{judge, checkOf};
+ghost use Rattle.rules.specs.Verdict.{judge, checkOf};
 ghost use Rattle.protocol.specs.Steps.{verdictOutcome};
 
 fn judged(timing: Timing, words: &[u32]) -> Verdict

@@ -10,7 +10,7 @@ use crate::script::word;
 use controller::CallAnswer;
 use controller::Controller;
 use controller::Ticked;
-use protocol::DESL;
+use rules::DESL;
 
 // The state with another controller.
 fn with_controller(state: State, controller: Controller) -> State {

@@ -4,7 +4,7 @@ use borrow.Author.Tests.{lt-leb}
 use denote.Ref.{now}
 use Rattle.config.specs.Outcome.{value, refused}
 use Rattle.config.specs.Numbers.{refusalNumber}
-use Rattle.protocol.specs.Verdict.{accepted, breach, checkBytesOf}
+use Rattle.rules.specs.Verdict.{accepted, breach, checkBytesOf}
 use Rattle.protocol.specs.Steps.{verdictOutcome}
 use Rattle.marker.specs.Mark.{lineBy}
 use Rattle.marker.proofs.Verdicts.{line-is}

@@ -7,9 +7,9 @@ use lib.ListN.{length, drop, getD}
 use denote.Ref.{now}
 use Rattle.words.specs.Words.{wordsOf}
 use Rattle.words.proofs.Listed.{words-length, word-listed}
-use Rattle.protocol.specs.Verdict.{judge}
-use Rattle.protocol.specs.Stamps.{nextStamps}
-use Rattle.protocol.proofs.Words.{run, run-is, run-passes, run-breaches, run-ends}
+use Rattle.rules.specs.Verdict.{judge}
+use Rattle.rules.specs.Stamps.{nextStamps}
+use Rattle.rules.proofs.Words.{run, run-is, run-passes, run-breaches, run-ends}
 use Rattle.protocol.proofs.bytes.judged_bytes.Statement.{statement}
 use Rattle.protocol.proofs.bytes.judged_bytes.Tie as tie
 

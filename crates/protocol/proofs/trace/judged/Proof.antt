@@ -6,9 +6,9 @@ use mathlib.Core.Logic.{⊎-elim}
 use borrow.Author.Needs.{needs}
 use lib.ListN.{length, drop, getD}
 use denote.Ref.{now}
-use Rattle.protocol.specs.Verdict.{judge}
-use Rattle.protocol.specs.Stamps.{nextStamps}
-use Rattle.protocol.proofs.Words.{run, run-is, run-passes, run-breaches, run-ends}
+use Rattle.rules.specs.Verdict.{judge}
+use Rattle.rules.specs.Stamps.{nextStamps}
+use Rattle.rules.proofs.Words.{run, run-is, run-passes, run-breaches, run-ends}
 use Rattle.protocol.proofs.trace.judged.Statement.{statement}
 use Rattle.protocol.proofs.trace.judged.Tie as tie
 

@@ -1,0 +1,7 @@
+-- Facts on pins and pairs. Read RoundTrip last: it has the theorem.
+pub mod Levels
+pub mod Lanes
+pub mod Written
+pub mod WrittenBack
+pub mod ReadBack
+pub mod RoundTrip

@@ -1,0 +1,15 @@
+-- Reading and writing are each other's inverse, over all configurations.
+use mathlib.Core.Path.{_≡_}
+use Rattle.config.specs.Outcome.{value}
+use Rattle.config.specs.declared.Config.{Config}
+use Rattle.command.specs.Reading.{readPair}
+use Rattle.command.specs.Writing.{writePair}
+use Rattle.roundtrip.specs.Ignored.{ignoredLow}
+use Rattle.command.specs.declared.operation.Operation.{Operation}
+use Rattle.command.specs.declared.operation.Pair.{Pair}
+
+pub record RoundTrip : Type 0 where
+  -- an operation that is written reads back to itself
+  pub written-reads-back : (c : Config) (o : Operation) (p : Pair) → writePair c o ≡ value p → readPair c p ≡ value o
+  -- a pair that reads as an operation is written back as the same pair with every ignored pin low
+  pub read-writes-back : (c : Config) (p : Pair) (o : Operation) → readPair c p ≡ value o → writePair c o ≡ value (ignoredLow c p)

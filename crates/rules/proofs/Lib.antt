@@ -1,0 +1,7 @@
+-- The tests of timestamps are the published rules. Read Words last: it has a word, and a whole trace.
+pub mod Lowest
+pub mod Closings
+pub mod Newest
+pub mod Summary
+pub mod Tests
+pub mod Words

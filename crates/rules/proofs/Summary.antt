@@ -1,0 +1,103 @@
+-- What is kept of a history, as a function of it; a pair that closes changes it as `remembered` says. Assumes nothing.
+use Prim.Native.Nat.{ℕ, zero, suc, _+_, _<_, _/_, _^_}
+use mathlib.Core.Path.{_≡_, refl, sym, _∙_, ap, fun-ext}
+use mathlib.Core.Bool.{Bool, true, false, cond, not, _&&_}
+use mathlib.Core.List.{List, [], _∷_}
+use native.Mathlib.Omega.{arith}
+use native.Mathlib.Nat.{mod-lt}
+use lib.ListN.{getD, set}
+use lib.Dec.{eqb, lit<}
+use Rattle.command.specs.Pins.{high}
+use Rattle.command.specs.Reading.{rda, lal}
+use Rattle.rules.specs.History.{ClosedPair}
+use Rattle.rules.specs.Rules.{wasRead, wasWrite, wasAccess, wasMode, wasRefresh, wasRegular, wasExtended, bankOf, closings, oldest}
+use Rattle.rules.specs.Stamps.{withAccess, withMode, withRefresh, remembered}
+use Rattle.rules.specs.declared.stamps.Timestamps.{Timestamps}
+use Rattle.rules.proofs.Closings.{closings-past0, oldest-cons}
+use Rattle.rules.proofs.Newest.{latest, latest-cons}
+
+abbrev pub ofBank : ℕ → ClosedPair → Bool
+ofBank b p = wasAccess p && eqb (bankOf (p .first)) b
+
+-- one number for each of the eight banks
+abbrev pub eachBank : (ℕ → ℕ) → List ℕ
+eachBank f = f 0 ∷ f 1 ∷ f 2 ∷ f 3 ∷ f 4 ∷ f 5 ∷ f 6 ∷ f 7 ∷ []
+
+-- the first eight of a list, 0 past its end
+abbrev pub firstEight : List ℕ → List ℕ
+firstEight ks = eachBank (λ i. getD ks i 0)
+
+abbrev pub summary : List ClosedPair → Timestamps
+summary ps =
+    record {
+      extended = oldest (closings wasExtended ps);
+      regular = latest wasRegular ps;
+      mode = latest wasMode ps;
+      read = latest wasRead ps;
+      write = latest wasWrite ps;
+      banks = eachBank (λ b. latest (ofBank b) ps);
+      refs = firstEight (closings wasRefresh ps);
+    }
+
+-- a list of eight, changed at one place
+pub set-bank : (f : ℕ → ℕ) (b k : ℕ) → b < 8 → set (eachBank f) b k ≡ eachBank (λ i. cond (eqb b i) k (f i))
+set-bank f zero k h = refl
+set-bank f (suc zero) k h = refl
+set-bank f (suc (suc zero)) k h = refl
+set-bank f (suc (suc (suc zero))) k h = refl
+set-bank f (suc (suc (suc (suc zero)))) k h = refl
+set-bank f (suc (suc (suc (suc (suc zero))))) k h = refl
+set-bank f (suc (suc (suc (suc (suc (suc zero)))))) k h = refl
+set-bank f (suc (suc (suc (suc (suc (suc (suc zero))))))) k h = refl
+set-bank f (suc (suc (suc (suc (suc (suc (suc (suc b)))))))) k h = absurd (omega arith)
+
+pub get-bank : (f : ℕ → ℕ) (b : ℕ) → b < 8 → getD (eachBank f) b 0 ≡ f b
+get-bank f zero h = refl
+get-bank f (suc zero) h = refl
+get-bank f (suc (suc zero)) h = refl
+get-bank f (suc (suc (suc zero))) h = refl
+get-bank f (suc (suc (suc (suc zero)))) h = refl
+get-bank f (suc (suc (suc (suc (suc zero))))) h = refl
+get-bank f (suc (suc (suc (suc (suc (suc zero)))))) h = refl
+get-bank f (suc (suc (suc (suc (suc (suc (suc zero))))))) h = refl
+get-bank f (suc (suc (suc (suc (suc (suc (suc (suc b)))))))) h = omega arith
+
+pub bank-bound : (first : ℕ) → bankOf first < 8
+bank-bound first = mod-lt (first / 2 ^ 14) (lit< tt)
+
+-- the three cases of `remembered`
+module _ (s : Timestamps) (k first second : ℕ) where
+  remember-access : lal second ≡ true → withAccess s k (rda first) (bankOf first) ≡ remembered s k first second
+  remember-access l = rw l
+
+  remember-mode : lal second ≡ false → rda first ≡ true → withMode s k (high 14 second) ≡ remembered s k first second
+  remember-mode l r = rw (l, r)
+
+  remember-refresh : lal second ≡ false → rda first ≡ false → withRefresh s k ≡ remembered s k first second
+  remember-refresh l r = rw (l, r)
+
+module _ (u first second : ℕ) (ps : List ClosedPair) where
+  abbrev pair : ClosedPair
+  pair = record { start = u; first = first; second = second }
+
+  banks : eachBank (λ b. latest (ofBank b) (pair ∷ ps)) ≡ eachBank (λ b. cond (ofBank b pair) (u + 1) (latest (ofBank b) ps))
+  banks = ap eachBank (fun-ext (λ b. latest-cons (ofBank b) pair ps))
+
+  access : (r : Bool) → rda first ≡ r → lal second ≡ true → summary (pair ∷ ps) ≡ withAccess (summary ps) (u + 1) r (bankOf first)
+  access true r l = rw (banks, r, l, set-bank (λ b. latest (ofBank b) ps) (bankOf first) (u + 1) (bank-bound first))
+  access false r l = rw (banks, r, l, set-bank (λ b. latest (ofBank b) ps) (bankOf first) (u + 1) (bank-bound first))
+
+  mode : (e : Bool) → high 14 second ≡ e → rda first ≡ true → lal second ≡ false → summary (pair ∷ ps) ≡ withMode (summary ps) (u + 1) e
+  mode true e r l = rw (r, l, e, oldest-cons (u + 1) (closings wasExtended ps) (closings-past0 wasExtended ps))
+  mode false e r l = rw (r, l, e)
+
+  refresh : rda first ≡ false → lal second ≡ false → summary (pair ∷ ps) ≡ withRefresh (summary ps) (u + 1)
+  refresh r l = rw (r, l)
+
+  pub summary-step : summary (pair ∷ ps) ≡ remembered (summary ps) (u + 1) first second
+  summary-step = by-kind (lal second) refl (rda first) refl
+    where
+      by-kind : (l : Bool) → lal second ≡ l → (r : Bool) → rda first ≡ r → summary (pair ∷ ps) ≡ remembered (summary ps) (u + 1) first second
+      by-kind true l r e = access (rda first) refl l ∙ remember-access (summary ps) (u + 1) first second l
+      by-kind false l true r = mode (high 14 second) refl r l ∙ remember-mode (summary ps) (u + 1) first second l r
+      by-kind false l false r = refresh r l ∙ remember-refresh (summary ps) (u + 1) first second l r

@@ -1,0 +1,91 @@
+-- Each published rule, over the whole history, is the test of what is kept of it. Assumes nothing.
+use Prim.Native.Nat.{ℕ, zero, suc, _+_, _-_, _≤_, _<_, _/_}
+use mathlib.Core.Path.{_≡_, refl, sym, _∙_, ap, ap₂}
+use mathlib.Core.Bool.{Bool, true, false, cond, not, _&&_, _||_, Bool·not-not}
+use mathlib.Core.List.{List, [], _∷_}
+use native.Mathlib.Omega.{arith}
+use lib.ListN.{length, getD}
+use lib.Dec.{eqb, leb, ltb}
+use Rattle.config.specs.declared.Timing.{Timing}
+use Rattle.command.specs.Reading.{rda, lal, isRead, isWrite, isMode, isRefresh}
+use Rattle.rules.specs.History.{ClosedPair, Past}
+use Rattle.rules.specs.Rules.{wasRead, wasWrite, wasAccess, wasMode, wasRefresh, wasRegular, wasExtended, bankOf, earlier, closings, oldest, rule3, rule6, rule7, rule8, rule9, rule10, rule11, rule12}
+use Rattle.rules.specs.Stamps.{near, overdue, bankStamp, notReady, tooClose, busy}
+use Rattle.rules.proofs.Closings.{ltb-same, closings-past0, counted, oldest-counted}
+use Rattle.rules.proofs.Newest.{Ordered, latest, since-start, since-closing}
+use Rattle.rules.proofs.Summary.{summary, ofBank, get-bank, bank-bound}
+
+-- an earlier pair of one of two kinds
+earlier-either : (a b g : ClosedPair → Bool) (ps : List ClosedPair)
+    → earlier (λ p. (a p || b p) && g p) ps ≡ (earlier (λ p. a p && g p) ps || earlier (λ p. b p && g p) ps)
+earlier-either a b g [] = refl
+earlier-either a b g (p ∷ ps) = rw (earlier-either a b g ps) (go (a p) (b p) (g p) _ _)
+  where
+    go : (x y z m n : Bool) → ((x || y) && z || (m || n)) ≡ ((x && z || m) || (y && z || n))
+    go true y true m n = refl
+    go true true false m n = refl
+    go true false false m n = refl
+    go false true true true n = refl
+    go false true true false n = refl
+    go false true false m n = refl
+    go false false z m n = refl
+
+pub closing-bound : (f : ClosedPair → Bool) (b : ℕ) (ps : List ClosedPair) → Ordered b ps → (i : ℕ) → getD (closings f ps) i 0 ≤ b
+closing-bound f b [] o i = omega arith
+closing-bound f b (p ∷ ps) o i = go (f p) i (closing-bound f (p .start) ps (o .1))
+  where
+    go : (x : Bool) (i : ℕ) → ((i : ℕ) → getD (closings f ps) i 0 ≤ p .start) → getD (cond x ((p .start + 1) ∷ closings f ps) (closings f ps)) i 0 ≤ b
+    go true zero h = omega arith
+    go true (suc i) h =
+        let q = h i in
+        omega arith
+    go false i h =
+        let q = h i in
+        omega arith
+
+-- rule 3 looks at no open pair
+pub overdue-is : (t : Timing) (p : Past) (w : ℕ) → rule3 t p w ≡ overdue (t .refi) (getD (summary (p .pairs) .refs) 0 0) (p .clock)
+overdue-is t p w =
+    let refs = closings wasRefresh (p .pairs) in
+    ap₂ _&&_ (counted refs (closings-past0 wasRefresh (p .pairs)) 0)
+    (ltb-same (t .refi) (p .clock - getD refs 0 0) (getD refs 0 0 + t .refi) (p .clock) (λ h. omega arith) (λ h. omega arith))
+
+module _ (t : Timing) (k : ℕ) (first second : ℕ) (ps : List ClosedPair) (o : Ordered (k - 1) ps) where
+  pub ready-is : rule6 t ps (k - 1) first second ≡ (lal second && notReady (summary ps .extended) (summary ps .regular) (getD (summary ps .refs) 1 0) k)
+  ready-is =
+      let e = oldest (closings wasExtended ps) in
+      rw
+      (oldest-counted (closings wasExtended ps) (closings-past0 wasExtended ps), counted (closings wasRegular ps) (closings-past0 wasRegular ps) 0, counted (closings wasRefresh ps) (closings-past0 wasRefresh ps) 1, Bool·not-not (eqb (latest wasRegular ps) 0), Bool·not-not (eqb (getD (closings wasRefresh ps) 1 0) 0), ltb-same (k - 1 - e) 200 k (e + 201) (λ q. omega arith) (λ q. omega arith))
+
+  pub bank-is : rule7 t ps (k - 1) first second ≡ (lal second && near k (bankStamp (summary ps) first) (t .rc))
+  bank-is =
+      ap (λ b. lal second && b)
+      (since-start (ofBank (bankOf first)) (t .rc) k ps o
+      ∙ ap (λ c. near k c (t .rc)) (sym (get-bank (λ b. latest (ofBank b) ps) (bankOf first) (bank-bound first))))
+
+  any-near : (n : ℕ) → earlier (λ p. wasAccess p && ltb (k - 1 - p .start) n) ps ≡ (near k (latest wasRead ps) n || near k (latest wasWrite ps) n)
+  any-near n =
+      earlier-either wasRead wasWrite (λ p. ltb (k - 1 - p .start) n) ps
+      ∙ ap₂ _||_ (since-start wasRead n k ps o) (since-start wasWrite n k ps o)
+
+  pub close-is : rule8 t ps (k - 1) first second ≡ tooClose (rda first) (lal second) t (summary ps .read) (summary ps .write) k
+  close-is = rw (any-near (t .rbd), since-closing wasRead (t .rwd) k ps o, since-closing wasWrite (t .wrd) k ps o)
+
+  pub mode-is : rule9 t ps (k - 1) first second ≡ near k (summary ps .mode) (t .rsc)
+  mode-is = since-start wasMode (t .rsc) k ps o
+
+  pub refresh-is : rule10 t ps (k - 1) first second ≡ near k (getD (summary ps .refs) 0 0) (t .refc)
+  refresh-is = since-start wasRefresh (t .refc) k ps o
+
+  pub busy-is : rule11 t ps (k - 1) first second ≡ busy (rda first) (lal second) t (summary ps .read) (summary ps .write) k
+  busy-is =
+      rw
+      (any-near (t .rc), since-closing wasRead (t .cl + t .bl / 2) k ps o, since-closing wasWrite (t .wl + t .bl / 2) k ps o)
+
+  pub window-is : 1 ≤ k → rule12 t ps (k - 1) first second ≡ (isRefresh first second && near k (getD (summary ps .refs) 7 0) (t .window))
+  window-is h =
+      let refs = closings wasRefresh ps in
+      let b = closing-bound wasRefresh (k - 1) ps o 7 in
+      ap (λ b. isRefresh first second && b)
+      (ap₂ _&&_ (counted refs (closings-past0 wasRefresh ps) 7)
+      (ltb-same (k - 1 + 1 - getD refs 7 0) (t .window) k (getD refs 7 0 + t .window) (λ q. omega arith) (λ q. omega arith)))

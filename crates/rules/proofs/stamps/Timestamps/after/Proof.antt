@@ -1,0 +1,16 @@
+-- A word that closes a pair is remembered. Assumes nothing.
+use borrow.Author.Needs.{needs}
+use Rattle.rules.proofs.stamps.Timestamps.after.Statement.{statement}
+use Rattle.rules.proofs.stamps.Timestamps.after.Tie as tie
+
+remembered-requires : tie.Need-remembered-requires
+remembered-requires c κs = search needs
+
+returns : tie.Need-returns
+returns c = rw (c .remembered .ensures, c .before .if1 .taken)
+
+returns-2 : tie.Need-returns-2
+returns-2 c = rw (c .if1 .left)
+
+pub after-spec : {M : Type 1} → statement M
+after-spec = tie.close (tie.spec remembered-requires returns returns-2)

@@ -1,0 +1,132 @@
+-- What is kept of a past, and the rules as tests of that. A timestamp is the clock of an event's closing word; 0 is never, since no
+-- pair closes at clock 0. At a closing word k, k less a timestamp is u − t.
+use Prim.Native.Nat.{ℕ, _+_, _/_}
+use mathlib.Core.Bool.{Bool, true, false, cond, not, _&&_, _||_}
+use mathlib.Core.List.{List, [], _∷_}
+use lib.ListN.{getD, set}
+use lib.Dec.{eqb, leb, ltb}
+use Rattle.config.specs.declared.Timing.{Timing}
+use Rattle.command.specs.Pins.{high, strayBit}
+use Rattle.command.specs.Reading.{opens, rda, lal, isRefresh, modeWrong, laneReserved}
+use Rattle.rules.specs.Rules.{bankOf, lowest}
+use Rattle.rules.specs.declared.stamps.Timestamps.{Timestamps}
+
+-- an event at c, if there was one, is less than n clocks before k
+abbrev pub near : ℕ → ℕ → ℕ → Bool
+near k c n = not (eqb c 0) && ltb k (c + n)
+
+abbrev pub bankStamp : Timestamps → ℕ → ℕ
+bankStamp s first = getD (s .banks) (bankOf first) 0
+
+-- rules 1 to 3
+abbrev pub overdue : ℕ → ℕ → ℕ → Bool
+overdue refi last k = not (eqb last 0) && ltb (last + refi) k
+
+abbrev pub earlyBreach : ℕ → ℕ → ℕ → ℕ → ℕ
+earlyBreach refi last k w = lowest 1 (strayBit w ∷ not (high 19 w) ∷ overdue refi last k ∷ [])
+
+-- rule 6, for a read or write: first extended and last regular MRS, last but one REF
+abbrev pub notReady : ℕ → ℕ → ℕ → ℕ → Bool
+notReady extended regular secondLast k = eqb extended 0 || eqb regular 0 || eqb secondLast 0 || ltb k (extended + 201)
+
+-- rule 8, by RDA and LAL and the last read and the last write
+abbrev pub tooClose : Bool → Bool → Timing → ℕ → ℕ → ℕ → Bool
+tooClose rda lal t read write k =
+    lal && (near k read (t .rbd) || near k write (t .rbd))
+    || not rda && lal && near k read (t .rwd + 1)
+    || rda && lal && near k write (t .wrd + 1)
+
+-- rule 11, by the same
+abbrev pub busy : Bool → Bool → Timing → ℕ → ℕ → ℕ → Bool
+busy rda lal t read write k =
+    not lal && (near k read (t .rc) || near k write (t .rc))
+    || rda && not lal && near k read (t .cl + t .bl / 2 + 1)
+    || rda && not lal && near k write (t .wl + t .bl / 2 + 1)
+
+-- rules 4 to 12
+abbrev pub closingBreach : Timing → Timestamps → ℕ → ℕ → ℕ → ℕ
+closingBreach t s k first second =
+    lowest 4
+    (modeWrong t first second
+    ∷ laneReserved t first second
+    ∷ (lal second && notReady (s .extended) (s .regular) (getD (s .refs) 1 0) k)
+    ∷ (lal second && near k (bankStamp s first) (t .rc))
+    ∷ tooClose (rda first) (lal second) t (s .read) (s .write) k
+    ∷ near k (s .mode) (t .rsc)
+    ∷ near k (getD (s .refs) 0 0) (t .refc)
+    ∷ busy (rda first) (lal second) t (s .read) (s .write) k
+    ∷ (isRefresh first second && near k (getD (s .refs) 7 0) (t .window))
+    ∷ [])
+
+-- the lowest breach at a word, with the first word of the open pair, or a word with CS high where none is open
+abbrev pub wordBreach : Timing → Timestamps → ℕ → ℕ → ℕ → ℕ
+wordBreach t s k first w =
+    let early = earlyBreach (t .refi) (getD (s .refs) 0 0) k w in
+    cond (eqb early 0) (cond (opens first) (closingBreach t s k first w) 0) early
+
+-- what is kept once a pair has closed at k
+abbrev pub withAccess : Timestamps → ℕ → Bool → ℕ → Timestamps
+withAccess s k read bank =
+    record {
+      extended = s .extended;
+      regular = s .regular;
+      mode = s .mode;
+      read = cond read k (s .read);
+      write = cond read (s .write) k;
+      banks = set (s .banks) bank k;
+      refs = s .refs;
+    }
+
+abbrev pub withMode : Timestamps → ℕ → Bool → Timestamps
+withMode s k extended =
+    record {
+      extended = cond (extended && eqb (s .extended) 0) k (s .extended);
+      regular = cond extended (s .regular) k;
+      mode = k;
+      read = s .read;
+      write = s .write;
+      banks = s .banks;
+      refs = s .refs;
+    }
+
+-- the newest in front, the eighth drops out
+abbrev pub shifted : ℕ → List ℕ → List ℕ
+shifted k r =
+    k
+    ∷ getD r 0 0
+    ∷ getD r 1 0
+    ∷ getD r 2 0
+    ∷ getD r 3 0
+    ∷ getD r 4 0
+    ∷ getD r 5 0
+    ∷ getD r 6 0
+    ∷ []
+
+abbrev pub withRefresh : Timestamps → ℕ → Timestamps
+withRefresh s k =
+    record {
+      extended = s .extended;
+      regular = s .regular;
+      mode = s .mode;
+      read = s .read;
+      write = s .write;
+      banks = s .banks;
+      refs = shifted k (s .refs);
+    }
+
+abbrev pub remembered : Timestamps → ℕ → ℕ → ℕ → Timestamps
+remembered s k first second =
+    cond (lal second) (withAccess s k (rda first) (bankOf first))
+    (cond (rda first) (withMode s k (high 14 second)) (withRefresh s k))
+
+-- after any word: what is kept, and the first word of the pair that is open then, or DESL
+abbrev pub nextStamps : Timestamps → ℕ → ℕ → ℕ → Timestamps
+nextStamps s k first w = cond (opens first) (remembered s k first w) s
+
+abbrev pub nextFirst : ℕ → ℕ → ℕ
+nextFirst first w = cond (high 18 first && opens w) w 0xC0000
+
+abbrev pub never : Timestamps
+never =
+    let none : List ℕ = 0 ∷ 0 ∷ 0 ∷ 0 ∷ 0 ∷ 0 ∷ 0 ∷ 0 ∷ [] in
+    record { extended = 0; regular = 0; mode = 0; read = 0; write = 0; banks = none; refs = none }

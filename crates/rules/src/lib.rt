@@ -1,0 +1,10 @@
+// The published rules, as tests of what is kept of the past.
+mod rules;
+mod stamps;
+
+pub use rules::closing_breach;
+pub use rules::early_breach;
+pub use rules::word_breach;
+pub use stamps::DESL;
+pub use stamps::Timestamps;
+pub use stamps::next_first;

@@ -1,0 +1,224 @@
+// The rules as tests of what is kept of the past.
+use crate::stamps::Timestamps;
+use command::pins::BA0;
+use command::pins::CS;
+use command::pins::FN;
+use command::pins::PD;
+use config::Timing;
+ghost use mathlib.Core.Path.{_≡_};
+ghost use mathlib.Core.Bool.{true, false};
+ghost use Rattle.command.specs.Reading.{lal};
+ghost use mathlib.Core.List.{[], _∷_};
+ghost use Prim.Native.Nat.{_+_};
+ghost use Rattle.rules.specs.Rules.{lowest};
+ghost use Rattle.rules.specs.Stamps.{near, earlyBreach, notReady, tooClose, busy, closingBreach, wordBreach};
+
+// An event at this timestamp, if there was one, is less than so many clocks ago.
+fn near(clock: u32, stamp: u32, limit: u32) -> bool
+    ensures { λ r. ⌜ r ≡ near clock stamp limit ⌝ }
+{
+    !(stamp == 0) & ((clock as u64) < stamp as u64 + limit as u64)
+}
+
+// The same, counted from a LAL word: one clock more.
+fn near_lal(clock: u32, stamp: u32, limit: u32) -> bool
+    ensures { λ r. ⌜ r ≡ near clock stamp (limit + 1) ⌝ }
+{
+    !(stamp == 0) & ((clock as u64) < stamp as u64 + (limit as u64 + 1))
+}
+
+// The same, up to the end of the data behind a LAL word.
+fn near_data(clock: u32, stamp: u32, latency: u32, length: u32) -> bool
+    ensures { λ r. ⌜ r ≡ near clock stamp (latency + length + 1) ⌝ }
+{
+    !(stamp == 0) & ((clock as u64) < stamp as u64 + (latency as u64 + length as u64 + 1))
+}
+
+// The number of the first of rules 1 to 3 whose test holds, or 0.
+fn lowest_early(stray: bool, low: bool, overdue: bool) -> u32
+    ensures { λ r. ⌜ r ≡ lowest 1 (stray ∷ low ∷ overdue ∷ []) ⌝ }
+{
+    if stray {
+        return 1;
+    }
+    if low {
+        return 2;
+    }
+    if overdue { 3 } else { 0 }
+}
+
+// Rules 1 to 3 at a word, by the last REF word.
+pub fn early_breach(refi: u32, last: u32, clock: u32, word: u32) -> u32
+    ensures { λ r. ⌜ r ≡ earlyBreach refi last clock word ⌝ }
+{
+    let overdue = !(last == 0) & (last as u64 + (refi as u64) < clock as u64);
+    lowest_early(0x100000 <= word, !(word / PD % 2 == 1), overdue)
+}
+
+// The number of the first of rules 4 to 12 whose test holds, or 0.
+fn lowest_closing(
+    r4: bool,
+    r5: bool,
+    r6: bool,
+    r7: bool,
+    r8: bool,
+    r9: bool,
+    r10: bool,
+    r11: bool,
+    r12: bool,
+) -> u32
+    ensures { λ r. ⌜ r ≡ lowest 4 (r4 ∷ r5 ∷ r6 ∷ r7 ∷ r8 ∷ r9 ∷ r10 ∷ r11 ∷ r12 ∷ []) ⌝ }
+{
+    if !(r4 | (r5 | (r6 | (r7 | (r8 | (r9 | (r10 | (r11 | r12)))))))) {
+        return 0;
+    }
+    if r4 {
+        return 4;
+    }
+    if r5 {
+        return 5;
+    }
+    if r6 {
+        return 6;
+    }
+    if r7 {
+        return 7;
+    }
+    if r8 {
+        return 8;
+    }
+    if r9 {
+        return 9;
+    }
+    if r10 {
+        return 10;
+    }
+    if r11 {
+        return 11;
+    }
+    if r12 { 12 } else { 0 }
+}
+
+// Rule 6, for a read or write.
+fn unready(extended: u32, regular: u32, second_last: u32, clock: u32) -> bool
+    ensures { λ r. ⌜ r ≡ notReady extended regular «second_last» clock ⌝ }
+{
+    (extended == 0) | (regular == 0) | (second_last == 0) | ((clock as u64) < extended as u64 + 201)
+}
+
+// Rule 8, for a read or write.
+fn too_close(rda: bool, timing: Timing, read: u32, write: u32, clock: u32) -> bool
+    ensures { λ r. ⌜ r ≡ tooClose rda true timing read write clock ⌝ }
+{
+    let after_read = near(clock, read, timing.rbd);
+    let after_write = near(clock, write, timing.rbd);
+    let read_to_write = near_lal(clock, read, timing.rwd);
+    let write_to_read = near_lal(clock, write, timing.wrd);
+    (after_read | after_write) | !rda & read_to_write | rda & write_to_read
+}
+
+// Rule 11, for an MRS or REF.
+fn busy(rda: bool, timing: Timing, read: u32, write: u32, clock: u32) -> bool
+    ensures { λ r. ⌜ r ≡ busy rda false timing read write clock ⌝ }
+{
+    let half = timing.bl / 2;
+    let after_read = near(clock, read, timing.rc);
+    let after_write = near(clock, write, timing.rc);
+    let read_data = near_data(clock, read, timing.cl, half);
+    let write_data = near_data(clock, write, timing.wl, half);
+    (after_read | after_write) | rda & read_data | rda & write_data
+}
+
+// Rules 4 to 12 at the LAL word of a read or write.
+fn access_breach(timing: Timing, stamps: Timestamps, clock: u32, first: u32, second: u32) -> u32
+    requires { ⌜ lal second ≡ true ⌝ }
+    ensures { λ r. ⌜ r ≡ closingBreach timing stamps clock first second ⌝ }
+{
+    let rda = first / FN % 2 == 1;
+    let banks = stamps.banks;
+    let refs = stamps.refs;
+    let bank = (first / BA0 % 8) as usize;
+    let reserved = command::lane_reserved(timing, first, second);
+    let unready = unready(stamps.extended, stamps.regular, refs[1], clock);
+    let same_bank = near(clock, banks[bank], timing.rc);
+    let too_close = too_close(rda, timing, stamps.read, stamps.write, clock);
+    let after_mode = near(clock, stamps.mode, timing.rsc);
+    let after_refresh = near(clock, refs[0], timing.refc);
+    lowest_closing(
+        false,
+        reserved,
+        unready,
+        same_bank,
+        too_close,
+        after_mode,
+        after_refresh,
+        false,
+        false,
+    )
+}
+
+// Rules 4 to 12 at an MRS or REF word.
+fn mode_or_refresh_breach(
+    timing: Timing,
+    stamps: Timestamps,
+    clock: u32,
+    first: u32,
+    second: u32,
+) -> u32
+    requires { ⌜ lal second ≡ false ⌝ }
+    ensures { λ r. ⌜ r ≡ closingBreach timing stamps clock first second ⌝ }
+{
+    let rda = first / FN % 2 == 1;
+    let refs = stamps.refs;
+    let wrong = command::mode_wrong(timing, first, second);
+    let after_mode = near(clock, stamps.mode, timing.rsc);
+    let after_refresh = near(clock, refs[0], timing.refc);
+    let busy = busy(rda, timing, stamps.read, stamps.write, clock);
+    let in_window = near(clock, refs[7], timing.window);
+    lowest_closing(
+        wrong,
+        false,
+        false,
+        false,
+        false,
+        after_mode,
+        after_refresh,
+        busy,
+        !rda & in_window,
+    )
+}
+
+// Rules 4 to 12 at the closing word of a pair.
+pub fn closing_breach(
+    timing: Timing,
+    stamps: Timestamps,
+    clock: u32,
+    first: u32,
+    second: u32,
+) -> u32
+    ensures { λ r. ⌜ r ≡ closingBreach timing stamps clock first second ⌝ }
+{
+    let lal = second / CS % 2 == 1;
+    if lal {
+        access_breach(timing, stamps, clock, first, second)
+    } else {
+        mode_or_refresh_breach(timing, stamps, clock, first, second)
+    }
+}
+
+// The lowest breach number at a word, or 0, where `first` is the word of the open pair, or one with CS high where none is open.
+pub fn word_breach(timing: Timing, stamps: Timestamps, clock: u32, first: u32, word: u32) -> u32
+    ensures { λ r. ⌜ r ≡ wordBreach timing stamps clock first word ⌝ }
+{
+    let refs = stamps.refs;
+    let early = early_breach(timing.refi, refs[0], clock, word);
+    if early != 0 {
+        return early;
+    }
+    let opened = !(first / CS % 2 == 1);
+    if opened {
+        closing_breach(timing, stamps, clock, first, word)
+    } else {
+        0
+    }
+}

@@ -1,0 +1,130 @@
+// What is kept of the past: the clock of each event's closing word, 0 for never.
+use command::pins::BA0;
+use command::pins::CS;
+use command::pins::FN;
+use config::choose;
+ghost use mathlib.Core.Path.{_≡_};
+ghost use Prim.Native.Nat.{_<_};
+ghost use Rattle.rules.specs.Stamps.{withAccess, withMode, withRefresh, remembered, nextStamps, nextFirst, never};
+
+pub struct Timestamps {
+    // The first extended MRS word.
+    pub extended: u32,
+    // The last regular MRS word.
+    pub regular: u32,
+    // The last MRS word.
+    pub mode: u32,
+    // LAL of the last read, and of the last write.
+    pub read: u32,
+    pub write: u32,
+    // LAL of the last read or write of each bank.
+    pub banks: [u32; 8],
+    // The last eight REF words, newest first.
+    pub refs: [u32; 8],
+}
+
+// The word that is sent where nothing else is.
+pub const DESL: u32 = 0xC0000;
+
+impl Timestamps {
+    // No event yet.
+    pub fn never() -> Timestamps
+        ensures { λ r. ⌜ r ≡ never ⌝ }
+    {
+        Timestamps {
+            extended: 0,
+            regular: 0,
+            mode: 0,
+            read: 0,
+            write: 0,
+            banks: [0; 8],
+            refs: [0; 8],
+        }
+    }
+
+    fn with_access(self, clock: u32, read: bool, bank: usize) -> Timestamps
+        requires { ⌜ bank < 8 ⌝ }
+        ensures { λ r. ⌜ r ≡ withAccess self clock read bank ⌝ }
+    {
+        let mut banks = self.banks;
+        banks[bank] = clock;
+        let refs = self.refs;
+        Timestamps {
+            extended: self.extended,
+            regular: self.regular,
+            mode: self.mode,
+            read: choose(read, clock, self.read),
+            write: choose(read, self.write, clock),
+            banks,
+            refs,
+        }
+    }
+
+    fn with_mode(self, clock: u32, extended: bool) -> Timestamps
+        ensures { λ r. ⌜ r ≡ withMode self clock extended ⌝ }
+    {
+        let banks = self.banks;
+        let refs = self.refs;
+        Timestamps {
+            extended: choose(extended & (self.extended == 0), clock, self.extended),
+            regular: choose(extended, self.regular, clock),
+            mode: clock,
+            read: self.read,
+            write: self.write,
+            banks,
+            refs,
+        }
+    }
+
+    fn with_refresh(self, clock: u32) -> Timestamps
+        ensures { λ r. ⌜ r ≡ withRefresh self clock ⌝ }
+    {
+        let banks = self.banks;
+        let r = self.refs;
+        let refs = [clock, r[0], r[1], r[2], r[3], r[4], r[5], r[6]];
+        Timestamps {
+            extended: self.extended,
+            regular: self.regular,
+            mode: self.mode,
+            read: self.read,
+            write: self.write,
+            banks,
+            refs,
+        }
+    }
+
+    // What is kept once a pair has closed at this clock.
+    pub fn remembered(self, clock: u32, first: u32, second: u32) -> Timestamps
+        ensures { λ r. ⌜ r ≡ remembered self clock first second ⌝ }
+    {
+        let rda = first / FN % 2 == 1;
+        let lal = second / CS % 2 == 1;
+        if lal {
+            return self.with_access(clock, rda, (first / BA0 % 8) as usize);
+        }
+        if rda {
+            self.with_mode(clock, second / BA0 % 2 == 1)
+        } else {
+            self.with_refresh(clock)
+        }
+    }
+
+    // What is kept after a word, where `first` is the word of the open pair, or one with CS high where none is open.
+    pub fn after(self, clock: u32, first: u32, word: u32) -> Timestamps
+        ensures { λ r. ⌜ r ≡ nextStamps self clock first word ⌝ }
+    {
+        let opened = !(first / CS % 2 == 1);
+        if opened {
+            self.remembered(clock, first, word)
+        } else {
+            self
+        }
+    }
+}
+
+// The first word of the pair that is open after a word, or DESL.
+pub fn next_first(first: u32, word: u32) -> u32
+    ensures { λ r. ⌜ r ≡ nextFirst first word ⌝ }
+{
+    choose((first / CS % 2 == 1) & !(word / CS % 2 == 1), word, DESL)
+}
