@@ -1,0 +1,115 @@
+//! From words to text.
+
+use crate::command::{Command, Format, Kind};
+use crate::pins::{high, CS};
+use std::io::{self, Write};
+
+/// Equal words that open and close pairs in turn are named one by one up to this number.
+const NAMED_IN_TURN: u64 = 4;
+
+/// Lists the trace in a file's bytes; assembled again, the text gives the same bytes.
+pub fn list(bytes: &[u8], format: Format, out: &mut impl Write) -> io::Result<()> {
+    let words = bytes.chunks_exact(4);
+    let rest = words.remainder();
+    let words: Vec<u32> = words
+        .map(|b| u32::from_le_bytes([b[0], b[1], b[2], b[3]]))
+        .collect();
+    heading(words.len(), format, out)?;
+    let mut lister = Lister {
+        format,
+        first: None,
+        clock: 0,
+        out,
+    };
+    for run in words.chunk_by(|a, b| a == b) {
+        lister.run(run[0], run.len() as u64)?;
+    }
+    for byte in rest {
+        writeln!(out, "BYTE {byte:#X}")?;
+    }
+    Ok(())
+}
+
+/// The number of words, and the format where it is not the institute's own.
+fn heading(words: usize, format: Format, out: &mut impl Write) -> io::Result<()> {
+    let usual = Format::default();
+    writeln!(out, "# {words} words")?;
+    if format.bl != usual.bl {
+        writeln!(out, "bl {}", format.bl)?;
+    }
+    if format.organisation != usual.organisation {
+        writeln!(out, "organisation {}", format.organisation)?;
+    }
+    Ok(())
+}
+
+/// The place in the trace.
+struct Lister<'a, W> {
+    format: Format,
+    /// The first word of the open pair.
+    first: Option<u32>,
+    clock: u64,
+    out: &'a mut W,
+}
+
+impl<W: Write> Lister<'_, W> {
+    /// Lists a run of equal words. The one that closes a pair has a line of its own.
+    fn run(&mut self, word: u32, mut count: u64) -> io::Result<()> {
+        if self.first.is_some() {
+            self.single(word)?;
+            count -= 1;
+        }
+        if count == 0 {
+            return Ok(());
+        }
+        if high(word, CS) {
+            return self.fold(word, count);
+        }
+        if count > NAMED_IN_TURN {
+            return self.in_turn(word, count);
+        }
+        for _ in 0..count {
+            self.single(word)?;
+        }
+        Ok(())
+    }
+
+    /// Lists one word that opens or closes a pair.
+    fn single(&mut self, word: u32) -> io::Result<()> {
+        let kind = Kind::of(self.first, word);
+        self.first = match self.first {
+            None => Some(word),
+            Some(_) => None,
+        };
+        self.line(kind.read(self.format, word), 1, kind.name())
+    }
+
+    /// Lists words with CS high and no pair open.
+    fn fold(&mut self, word: u32, count: u64) -> io::Result<()> {
+        self.line(Kind::Desl.read(self.format, word), count, "DESL")
+    }
+
+    /// Lists many equal words that open and close pairs, from an opening one on.
+    fn in_turn(&mut self, word: u32, count: u64) -> io::Result<()> {
+        self.first = (count % 2 == 1).then_some(word);
+        let opening = Kind::of(None, word).name();
+        let closing = Kind::of(Some(word), word).name();
+        let note = format!("{opening} and {closing} in turn");
+        self.line(Command::Word(word), count, &note)
+    }
+
+    /// Writes a line: the command, how often, and in a comment its clocks and what a bare word is.
+    fn line(&mut self, command: Command, count: u64, kind: &str) -> io::Result<()> {
+        let mut text = command.to_string();
+        let mut note = self.clock.to_string();
+        if count > 1 {
+            text += &format!(" x {count}");
+            note += &format!(" to {}", self.clock + count - 1);
+        }
+        if matches!(command, Command::Word(_)) {
+            note += &format!(", {kind}");
+        }
+        self.clock += count;
+        writeln!(self.out, "{text:<39} # {note}")
+    }
+}

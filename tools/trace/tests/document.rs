@@ -1,0 +1,38 @@
+//! The example of docs/TRACES.md, its text against its listing and against its program in C.
+
+mod common;
+
+use common::{assembled, listing};
+use std::path::Path;
+use std::process::Command;
+use trace::Format;
+
+const DOCUMENT: &str = include_str!("../../../docs/TRACES.md");
+
+/// The block of the document that is marked so.
+fn block(mark: &str) -> &'static str {
+    let opening = format!("```{mark}\n");
+    let (_, rest) = DOCUMENT.split_once(&opening).expect("the block is there");
+    rest.split_once("```").expect("the block ends").0
+}
+
+#[test]
+fn text_and_listing() {
+    let trace = assembled(block("text"));
+    assert_eq!(listing(&trace, Format::default()), block("listing"));
+    assert_eq!(assembled(block("listing")), trace);
+}
+
+#[test]
+fn program_in_c() {
+    let directory = Path::new(env!("CARGO_TARGET_TMPDIR"));
+    let (source, program) = (directory.join("example.c"), directory.join("example"));
+    std::fs::write(&source, block("c")).expect("the source can be written");
+    let built = Command::new("cc")
+        .args(["-Wall", "-Wextra", "-Werror", "-o"])
+        .args([&program, &source])
+        .status();
+    assert!(built.expect("cc runs").success());
+    let run = Command::new(&program).output().expect("the program runs");
+    assert_eq!(run.stdout, assembled(block("text")));
+}
