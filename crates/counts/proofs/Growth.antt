@@ -9,16 +9,12 @@ use native.Mathlib.Nat.{add-zero, add-comm}
 use borrow.Author.Tests.{not-true}
 use Rattle.command.specs.Pins.{high, level}
 use Rattle.command.specs.Reading.{opens, isRead, isWrite, isMode, isRefresh}
-use Rattle.rules.specs.History.{ClosedPair, Past, nothing, extend, extendBy}
+use Rattle.rules.specs.History.{ClosedPair, Past, nothing, extend, extendBy, pastFrom}
 use Rattle.rules.specs.Rules.{wasRead, wasWrite, wasMode, wasRefresh}
 use Rattle.rules.specs.Stamps.{nextFirst}
-use Rattle.rules.proofs.Words.{firstOf, Regular, regular-extend, first-is}
-use Rattle.counts.specs.Counts.{pastFrom, count, deslAt, deslsFrom, countsOf}
+use Rattle.rules.proofs.Words.{firstOf, Regular, regular-extend, past-append, first-is}
+use Rattle.counts.specs.Counts.{count, deslAt, deslsFrom, countsOf}
 use Rattle.counts.specs.Turn.{counted}
-
-past-append : (p : Past) (ws : List ℕ) (w : ℕ) → pastFrom p (ws ++ (w ∷ [])) ≡ extend (pastFrom p ws) w
-past-append p [] w = refl
-past-append p (v ∷ ws) w = past-append (extend p v) ws w
 
 desls-append : (p : Past) (ws : List ℕ) (w : ℕ) → deslsFrom p (ws ++ (w ∷ [])) ≡ deslsFrom p ws + deslAt (pastFrom p ws .opened) w
 desls-append p [] w = omega arith

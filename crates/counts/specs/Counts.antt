@@ -9,16 +9,11 @@ use lib.Dec.{leb}
 use Rattle.config.specs.Numbers.{refusalNumber}
 use Rattle.command.specs.Pins.{level}
 use Rattle.command.specs.Reading.{opens}
-use Rattle.rules.specs.History.{ClosedPair, Past, nothing, extend}
+use Rattle.rules.specs.History.{ClosedPair, Past, nothing, extend, pastFrom}
 use Rattle.rules.specs.Rules.{wasRead, wasWrite, wasMode, wasRefresh}
 use Rattle.counts.specs.declared.CommandCounts.{CommandCounts}
 use Rattle.counts.specs.declared.CountsAnswer.{CountsAnswer}
 use Rattle.counts.specs.declared.CountsAnswer.the-variants.{Counted, Refused}
-
--- the past that words lead to
-abbrev pub pastFrom : Past → List ℕ → Past
-pastFrom p [] = p
-pastFrom p (w ∷ ws) = pastFrom (extend p w) ws
 
 -- how many closed pairs have a property
 abbrev pub count : (ClosedPair → Bool) → List ClosedPair → ℕ

@@ -26,7 +26,8 @@ use Rattle.rules.proofs.Tests.{closing-bound}
 use Rattle.rules.proofs.Words.{ordered-mono, breach-is}
 use Rattle.model.specs.Laid.{breachless}
 use Rattle.model.proofs.Figures.{Figures}
-use Rattle.model.proofs.Spacings.{AccessFree, sound-tests, sound-first, access-closes}
+use Rattle.roundtrip.proofs.SoundPair.{sound-tests}
+use Rattle.model.proofs.Spacings.{AccessFree, sound-first, access-closes}
 use Rattle.model.proofs.InTime.{lastRef, Normal, in-time, next-in-time}
 use Rattle.model.proofs.Turn.{idle, closes-with-lal}
 

@@ -11,7 +11,7 @@ use Rattle.command.specs.Writing.{pairOf, operationFits, requestFits}
 use Rattle.command.specs.declared.operation.Request.{Request}
 use Rattle.command.specs.declared.operation.Operation.{Operation}
 use Rattle.command.specs.declared.operation.Operation.the-variants.{Regular, Extended, Refresh}
-use Rattle.roundtrip.proofs.ReadBack.{sound}
+use Rattle.roundtrip.proofs.SoundPair.{sound-tests}
 use Rattle.roundtrip.proofs.WrittenBack.{written-back}
 use Rattle.rules.specs.History.{Past}
 use Rattle.rules.specs.Rules.{closings, wasExtended, wasRegular, wasRefresh}
@@ -59,4 +59,4 @@ candidate-due t p rs f =
 pub fits-open : (t : Timing) (f : Figures t) (o : Operation) → operationFits t o ≡ true → opens (pairOf t o .first) ≡ true
 fits-open t f o h =
     let w = pairOf t o in
-    rw (sound t (w .first) (w .second) (written-back t (f .bl) (f .cl) o h .0) .cs)
+    rw (sound-tests t (w .first) (w .second) (written-back t (f .bl) (f .cl) o h .0) .cs)

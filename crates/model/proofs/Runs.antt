@@ -16,24 +16,19 @@ use Rattle.config.specs.declared.Timing.{Timing}
 use Rattle.command.specs.Writing.{requestFits}
 use Rattle.command.specs.declared.operation.Request.{Request}
 use Rattle.command.specs.declared.operation.Operation.{Operation}
-use Rattle.rules.specs.History.{Past, nothing, extend}
+use Rattle.rules.specs.History.{Past, nothing, extend, pastFrom}
 use Rattle.rules.specs.Rules.{breachAt}
 use Rattle.rules.specs.Verdict.{Judgement, accepted, breach, lead, judgeFrom, judge}
-use Rattle.rules.proofs.Words.{clock-is}
+use Rattle.rules.proofs.Words.{past-append, clock-is}
 use Rattle.model.specs.Laid as laid
 use Rattle.controller.specs.States.{vacant}
 use Rattle.controller.specs.Steps.{held, offerOf}
-use Rattle.model.specs.Runs.{Call, offer, tick, Accepted, Run, called, Key, followed, ifAccepted, pastFrom, requestsOf, runFrom, layFrom}
+use Rattle.model.specs.Runs.{Call, offer, tick, Accepted, Run, called, Key, followed, ifAccepted, requestsOf, runFrom, layFrom}
 use Rattle.model.proofs.Figures.{Figures}
 use Rattle.model.proofs.Fulfilled.{Met, one-asked}
 use Rattle.model.proofs.Unopened.{bound}
 use Rattle.model.proofs.Going.{firstsOf, Going, tick-goes, offer-goes}
 use Rattle.model.proofs.Represents.{Represents, refusing, offer-is, offer-represents, tick-represents, tick-ends}
-
--- one word more
-past-snoc : (p : Past) (ws : List ℕ) (w : ℕ) → pastFrom p (ws ++ (w ∷ [])) ≡ extend (pastFrom p ws) w
-past-snoc p [] w = refl
-past-snoc p (v ∷ ws) w = past-snoc (extend p v) ws w
 
 abbrev Passed : Judgement → Type 0
 Passed accepted = Unit {0}
@@ -87,7 +82,7 @@ module _ (c : Config) (t : Timing) (is : timingOf c ≡ value t) (f : Figures t)
       subst⁻¹ (λ y. Kept (record { words = r .words ++ ifAccepted (y .outcome) (y .word); accepted = r .accepted; controller = y .after }) (record { words = k .words ++ (a .word ∷ []); course = a .after })) (ticks .tick)
       (record {
         words = ap (λ ws. ws ++ (a .word ∷ [])) (h .words);
-        past = tick-past t x ∙ ap (λ p. extend p (a .word)) (h .past) ∙ sym (past-snoc nothing (k .words) (a .word));
+        past = tick-past t x ∙ ap (λ p. extend p (a .word)) (h .past) ∙ sym (past-append nothing (k .words) (a .word));
         clock = omega arith;
         limit = omega arith;
         sound = judge-snoc t nothing (k .words) (a .word) (h .sound) (subst (λ p. breachAt t p (a .word) ≡ 0) (h .past) (g .passes));

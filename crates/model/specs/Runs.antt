@@ -12,7 +12,7 @@ use Rattle.command.specs.Writing.{requestFits}
 use Rattle.command.specs.declared.operation.Request.{Request}
 use Rattle.command.specs.declared.operation.Operation.{Operation}
 use Rattle.command.specs.declared.operation.Operation.the-variants.{Access, Regular, Extended, Refresh}
-use Rattle.rules.specs.History.{ClosedPair, Past, nothing, extend}
+use Rattle.rules.specs.History.{ClosedPair, Past, nothing, extend, pastFrom}
 use Rattle.rules.specs.Rules.{wasAccess}
 use Rattle.model.specs.Laid as laid
 use Rattle.controller.specs.States.{fresh}
@@ -76,11 +76,6 @@ layFrom t k (x ∷ xs) = layFrom t (followed t k x) xs
 
 abbrev pub lay : Timing → List Call → Key
 lay t calls = layFrom t (record { words = []; course = laid.start }) calls
-
--- the past that words lead to
-abbrev pub pastFrom : Past → List ℕ → Past
-pastFrom p [] = p
-pastFrom p (w ∷ ws) = pastFrom (extend p w) ws
 
 abbrev pub pairsOf : List ℕ → List ClosedPair
 pairsOf words = pastFrom nothing words .pairs

@@ -3,5 +3,6 @@ pub mod Levels
 pub mod Lanes
 pub mod Written
 pub mod WrittenBack
+pub mod SoundPair
 pub mod ReadBack
 pub mod RoundTrip

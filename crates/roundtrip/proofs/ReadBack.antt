@@ -1,7 +1,7 @@
 -- A sound pair stands for an operation in range, which is written back as the pair with every ignored pin low. Assumes nothing.
-use Prim.Native.Nat.{ℕ, _+_, _*_, _≤_, _<_, _/_, _^_}
+use Prim.Native.Nat.{ℕ, _+_, _*_, _/_, _^_}
 use mathlib.Core.Path.{_≡_, refl, sym, ap, subst⁻¹, _∙_}
-use mathlib.Core.Bool.{Bool, true, false, cond, not, _&&_, _||_, or-true, or-false, true≢false, false≢true}
+use mathlib.Core.Bool.{Bool, true, false, cond, not, _&&_, _||_, or-true, true≢false}
 use mathlib.Core.List.{List, [], _∷_, _++_}
 use mathlib.Core.Logic.{_⊎_, inl, inr}
 use native.Mathlib.Omega.{arith}
@@ -12,15 +12,16 @@ use Rattle.config.specs.Sheet.{derived}
 use Rattle.config.specs.declared.Config.{Config}
 use Rattle.config.specs.declared.Timing.{Timing}
 use Rattle.config.proofs.Bounds.{both}
-use Rattle.command.specs.Pins.{pins, high, put, drive, level, strayBit}
-use Rattle.command.specs.Reading.{rda, lal, columnOf, laneOf, accessOf, registerFits, modeFits, modeBy, reserved, modeWrong, laneReserved, soundPair, operationOf}
-use Rattle.command.specs.Writing.{laneFits, lanesFit, requestFits, operationFits, laneAt, accessPair, pairOf}
+use Rattle.command.specs.Pins.{pins, high, put, drive, level}
+use Rattle.command.specs.Reading.{rda, lal, laneOf, accessOf, registerFits, modeFits, modeBy, modeWrong, laneReserved, soundPair, operationOf}
+use Rattle.command.specs.Writing.{lanesFit, operationFits, laneAt, pairOf}
 use Rattle.roundtrip.specs.Ignored.{Pins, row, only, always, firstPins, lanePins, writePins, secondPins, ignoredLow}
 use Rattle.command.specs.declared.operation.Operation.{Operation}
 use Rattle.command.specs.declared.operation.Operation.the-variants.{Access, Regular, Extended, Refresh}
 use Rattle.command.specs.declared.operation.Pair.{Pair}
+use Rattle.roundtrip.proofs.SoundPair.{sound-tests}
 use Rattle.roundtrip.proofs.Levels.{level-high, put-pins, pins-split}
-use Rattle.roundtrip.proofs.Lanes.{unused, Read, read}
+use Rattle.roundtrip.proofs.Lanes.{unused, read}
 
 -- what a sound pair keeps, on the pins
 pub record Sound (t : Timing) (f s : ℕ) : Type 0 where
@@ -38,21 +39,8 @@ is-high n w e = sym (level-high n w) ∙ ap level e
 
 pub sound : (t : Timing) (f s : ℕ) → soundPair t f s ≡ true → Sound t f s
 sound t f s e =
-    let a = not (high 18 f) in
-    let b = not (strayBit f || strayBit s) in
-    let d = high 19 f && high 19 s in
-    let m = not (modeWrong t f s) in
-    let h₁ = both (a && b && d && m) (not (laneReserved t f s)) e in
-    let h₂ = both (a && b && d) m (h₁ .0) in
-    let h₃ = both (a && b) d (h₂ .0) in
-    let pd = both (high 19 f) (high 19 s) (h₃ .1) in
-    record {
-      cs = not-high 18 f (not-true (high 18 f) (both a b (h₃ .0) .0));
-      pd₁ = is-high 19 f (pd .0);
-      pd₂ = is-high 19 s (pd .1);
-      mode = not-true (modeWrong t f s) (h₂ .1);
-      lane = not-true (laneReserved t f s) (h₁ .1);
-    }
+    let h = sound-tests t f s e in
+    record { cs = not-high 18 f (h .cs); pd₁ = is-high 19 f (h .pd₁); pd₂ = is-high 19 s (h .pd₂); mode = h .mode; lane = h .lane }
 
 -- the operation is in range, and its pair is this one
 abbrev pub WritesTo : Timing → Operation → Pair → Type 0

@@ -3,7 +3,7 @@
 use Prim.Native.Nat.{ℕ, zero, suc, _+_, _-_, _≤_, _<_}
 use mathlib.Core.Path.{_≡_, refl, sym, _∙_, ap, ap₂, subst}
 use mathlib.Core.Bool.{Bool, true, false, cond, not, _&&_, _||_}
-use mathlib.Core.List.{List, [], _∷_}
+use mathlib.Core.List.{List, [], _∷_, _++_}
 use mathlib.Core.Option.{Option, none, some}
 use native.Mathlib.Omega.{arith}
 use native.Mathlib.Numerals.{add-one}
@@ -14,7 +14,7 @@ use lib.Dec.{eqb}
 use Rattle.config.specs.declared.Timing.{Timing}
 use Rattle.command.specs.Pins.{high, strayBit}
 use Rattle.command.specs.Reading.{opens, modeWrong, laneReserved}
-use Rattle.rules.specs.History.{ClosedPair, Past, nothing, extend, extendBy}
+use Rattle.rules.specs.History.{ClosedPair, Past, nothing, extend, extendBy, pastFrom}
 use Rattle.rules.specs.Rules.{rule3, rule6, rule7, rule8, rule9, rule10, rule11, rule12, lowest, breachAt}
 use Rattle.rules.specs.Verdict.{Judgement, accepted, breach, lead, judgeFrom, judge}
 use Rattle.rules.specs.Stamps.{overdue, earlyBreach, closingBreach, wordBreach, remembered, nextStamps, nextFirst, never}
@@ -81,6 +81,10 @@ first-is none p w r = go (opens w)
     go true = refl
     go false = refl
 first-is (some first) p w r = rw (not-true (high 18 first) (r .2))
+
+pub past-append : (p : Past) (ws : List ℕ) (w : ℕ) → pastFrom p (ws ++ (w ∷ [])) ≡ extend (pastFrom p ws) w
+past-append p [] w = refl
+past-append p (v ∷ ws) w = past-append (extend p v) ws w
 
 pub clock-is : (o : Option ℕ) (p : Past) (w : ℕ) → extendBy o p w .clock ≡ p .clock + 1
 clock-is none p w = refl

@@ -33,3 +33,8 @@ extendBy (some first) p w =
 
 abbrev pub extend : Past → ℕ → Past
 extend p w = extendBy (p .opened) p w
+
+-- the past that words lead to
+abbrev pub pastFrom : Past → List ℕ → Past
+pastFrom p [] = p
+pastFrom p (w ∷ ws) = pastFrom (extend p w) ws

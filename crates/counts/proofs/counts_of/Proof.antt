@@ -8,9 +8,9 @@ use borrow.Author.Needs.{needs}
 use lib.ListN.{length, take, getD}
 use lib.Seq.{take-suc, take-all}
 use denote.Ref.{now}
-use Rattle.rules.specs.History.{nothing}
+use Rattle.rules.specs.History.{nothing, pastFrom}
 use Rattle.rules.proofs.Words.{firstOf}
-use Rattle.counts.specs.Counts.{pastFrom, countsOf}
+use Rattle.counts.specs.Counts.{countsOf}
 use Rattle.counts.specs.Turn.{Below}
 use Rattle.counts.proofs.Growth.{counts-append, first-append}
 use Rattle.counts.proofs.counts_of.Statement.{statement}
