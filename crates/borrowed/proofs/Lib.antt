@@ -1,0 +1,2 @@
+-- Lent: what the walks of the two calls share.
+mod Lent
