@@ -1,0 +1,58 @@
+-- Lists of calls in which each is made by value or on a borrowed controller.
+use Prim.Native.Nat.{ℕ}
+use mathlib.Core.Path.{_≡_}
+use mathlib.Core.List.{List, [], _∷_, _++_, map}
+use lib.ListN.{length}
+use Rattle.config.specs.Outcome.{value}
+use Rattle.config.specs.Sheet.{timingOf}
+use Rattle.config.specs.declared.Config.{Config}
+use Rattle.config.specs.declared.Timing.{Timing}
+use Rattle.controller.specs.States.{fresh}
+use Rattle.controller.specs.Steps.{held, callOutcome, offered, ticked, offerOf, tickOf}
+use Rattle.model.specs.Runs.{Call, offer, tick, Accepted, Run, ifAccepted}
+use Rattle.model.specs.Demand3.{Holds}
+use Rattle.controller.specs.declared.Controller.{Controller}
+use Rattle.controller.specs.declared.CallAnswer.{CallAnswer}
+
+pub data Form : Type 0 where
+  byValue : Form
+  borrowed : Form
+
+-- a call that was made: its answer, a tick's word (0 for an offer), and the controller afterwards
+pub record Made : Type 0 where
+  pub form : Form
+  pub call : Call
+  pub answer : CallAnswer
+  pub word : ℕ
+  pub after : Controller
+
+-- what the contract of its form says of a call on a controller s
+abbrev pub Promised : Form → Controller → Call → CallAnswer → ℕ → Controller → Type 0
+Promised byValue s (offer q) answer word after = offered (record { answer = answer; controller = after }) ≡ offerOf s q
+Promised byValue s tick answer word after = ticked (record { answer = answer; word = word; controller = after }) ≡ tickOf s
+Promised borrowed s (offer q) answer word after = record { outcome = callOutcome answer; after = after } ≡ offerOf s q
+Promised borrowed s tick answer word after = record { outcome = callOutcome answer; word = word; after = after } ≡ tickOf s
+
+-- "Each call gets the controller that the last one handed back", or left behind the borrow.
+abbrev pub MadeFrom : Controller → List Made → Type 0
+MadeFrom s [] = Unit {0}
+MadeFrom s (m ∷ ms) = Promised (m .form) s (m .call) (m .answer) (m .word) (m .after) × MadeFrom (m .after) ms
+
+-- what the calls came to, by their answers alone
+abbrev pub collected : Call → CallAnswer → ℕ → Controller → Run → Run
+collected (offer q) answer word after r =
+    let a : Accepted = record { request = q; ticks = length (r .words); ahead = length (held (r .controller)) } in
+    record { words = r .words; accepted = r .accepted ++ ifAccepted (callOutcome answer) a; controller = after }
+collected tick answer word after r =
+    record { words = r .words ++ ifAccepted (callOutcome answer) word; accepted = r .accepted; controller = after }
+
+abbrev pub collectFrom : Run → List Made → Run
+collectFrom r [] = r
+collectFrom r (m ∷ ms) = collectFrom (collected (m .call) (m .answer) (m .word) (m .after) r) ms
+
+abbrev pub collect : Config → List Made → Run
+collect c ms = collectFrom (record { words = []; accepted = []; controller = fresh c }) ms
+
+-- "so the claim of demand 3 holds for such calls too"
+pub record EitherForm : Type 0 where
+  pub holds : (c : Config) (t : Timing) → timingOf c ≡ value t → (ms : List Made) → MadeFrom (fresh c) ms → Holds t (map (λ m. m .call) ms) (collect c ms)
