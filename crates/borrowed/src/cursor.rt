@@ -1,0 +1,82 @@
+// A walk over lent words (the paper's walk): each advance examines one more.
+use config::Config;
+use config::Refusal;
+use config::TimingAnswer;
+use protocol::Breach;
+use protocol::Checker;
+use protocol::Verdict;
+use protocol::clock_fits;
+ghost use mathlib.Core.Path.{_≡_};
+ghost use mathlib.Core.List.{[]};
+ghost use Rattle.protocol.specs.Steps.{verdictOutcome};
+ghost use Rattle.borrowed.specs.Walk.{progressOutcome, moved, ofWord, moveOf};
+
+// The words stay the caller's; the clock that the walk has reached is the checker's.
+pub struct TraceCursor<'a> {
+    pub words: &'a [u32],
+    pub checker: Checker,
+}
+
+// What an advance comes to.
+pub enum Progress {
+    Passed,
+    InBreach(Breach),
+    Refused(Refusal),
+    End,
+}
+
+pub struct Moved {
+    pub progress: Progress,
+    pub checker: Checker,
+}
+
+// What the verdict on a single word is in a walk.
+fn of_word(verdict: Verdict) -> Progress
+    ensures { λ r. ⌜ progressOutcome r ≡ ofWord (verdictOutcome verdict) ⌝ }
+{
+    match verdict {
+        Verdict::Accepted => Progress::Passed,
+        Verdict::InBreach(breach) => Progress::InBreach(breach),
+        Verdict::Refused(why) => Progress::Refused(why),
+    }
+}
+
+// What an advance answers with no word left.
+fn at_end(checker: Checker) -> Progress
+    ensures { λ r. ⌜ progressOutcome r ≡ moveOf checker [] .outcome ⌝ }
+{
+    let config = checker.config;
+    let stamps = checker.stamps;
+    match config.timing() {
+        TimingAnswer::Refused(why) => Progress::Refused(why),
+        TimingAnswer::Accepted(_) => {
+            if clock_fits(checker.clock, checker.first, stamps) {
+                Progress::End
+            } else {
+                Progress::Refused(Refusal::State)
+            }
+        }
+    }
+}
+
+// Examines the word at the checker's clock: the configuration's refusals and 19, then end where no word is left, then 23 and 24. The
+// checker comes back, one clock on if the word passed.
+pub fn next_word(words: &[u32], checker: Checker) -> Moved
+    ensures { λ r. ⌜ moved r ≡ moveOf checker (now (words .entry)) ⌝ }
+{
+    let at = checker.clock as usize;
+    if at < words.len() {
+        let stepped = checker.step(words[at]);
+        let verdict = stepped.verdict;
+        let checker = stepped.checker;
+        Moved {
+            progress: of_word(verdict),
+            checker,
+        }
+    } else {
+        Moved {
+            progress: at_end(checker),
+            checker,
+        }
+    }
+}

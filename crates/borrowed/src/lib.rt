@@ -1,0 +1,2 @@
+// Calls on what is lent: the caller finds it changed in place.
+pub mod cursor;
