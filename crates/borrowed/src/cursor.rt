@@ -8,7 +8,7 @@ use protocol::Verdict;
 use protocol::clock_fits;
 ghost use mathlib.Core.Path.{_≡_};
 ghost use mathlib.Core.List.{[]};
-ghost use Rattle.protocol.specs.Steps.{verdictOutcome};
+ghost use Rattle.protocol.specs.Steps.{fresh, verdictOutcome};
 ghost use Rattle.borrowed.specs.Walk.{progressOutcome, moved, ofWord, moveOf};
 
 // The words stay the caller's; the clock that the walk has reached is the checker's.
@@ -79,4 +79,12 @@ pub fn next_word(words: &[u32], checker: Checker) -> Moved
             checker,
         }
     }
+}
+
+// A fresh walk over the words, on any configuration.
+pub fn new<'a>(words: &'a [u32], config: Config) -> TraceCursor<'a>
+    ensures { λ r. ⌜ (r .words ≡ words .entry) × (r .checker ≡ fresh config) ⌝ }
+{
+    let checker = Checker::fresh(config);
+    TraceCursor { words, checker }
 }
