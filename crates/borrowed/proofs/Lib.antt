@@ -1,2 +1,3 @@
--- A whole walk and the published verdict.
+-- A whole walk and the published verdict; and what the proofs by hand have in common.
 pub mod Walk
+pub mod Lent

@@ -97,3 +97,15 @@ pub fn advance<'s, 'a>(cursor: &'s mut TraceCursor<'a>) -> Progress
     cursor.checker = moved.checker;
     moved.progress
 }
+
+// The first advance of a fresh walk. Whoever calls this, and goes on with `next_word`, needs no walk.
+pub fn first_word(words: &[u32], config: Config) -> Moved
+    ensures { λ r. ⌜ moved r ≡ moveOf (fresh config) (now (words .entry)) ⌝ }
+{
+    let mut cursor = new(words, config);
+    let progress = advance(&mut cursor);
+    Moved {
+        progress,
+        checker: cursor.checker,
+    }
+}
