@@ -2,7 +2,7 @@
 -- is one that steps make, and what is proved of stepping holds of a walk. Assumes nothing.
 use Prim.Native.Nat.{ℕ, zero, suc, _+_, _≤_, _<_}
 use mathlib.Core.Path.{_≡_, refl, sym, _∙_, ap, subst}
-use mathlib.Core.Bool.{Bool, true, false, cond, true≢false}
+use mathlib.Core.Bool.{Bool, true, false, cond}
 use mathlib.Core.List.{List, [], _∷_, _++_}
 use native.Mathlib.Omega.{arith}
 use native.Mathlib.Numerals.{add-one}
@@ -21,7 +21,7 @@ use Rattle.protocol.specs.Steps.{Step, fresh, clockFits, judged, refusing, step
 use Rattle.protocol.specs.Refinement.{follow, stepping, afterAll}
 use Rattle.protocol.specs.declared.checker.Checker.{Checker}
 use Rattle.protocol.proofs.Refinement.{refinement}
-use Rattle.borrowed.specs.Walk.{Reached, passed, breached, ended, Move, staying, ofWord, examined, moveBy, moveOf, advanced, unless, walking, stopOf, Call, step, advance, afterCall, afterCalls, Walk}
+use Rattle.borrowed.specs.Walk.{Reached, ended, Move, staying, ofWord, examined, moveBy, moveOf, advanced, unless, walking, stopOf, Call, step, advance, afterCalls, Walk}
 
 -- an advance with a word left is a step on that word
 pub is-step : (o : Outcome Timing) (s : Checker) (ws : List ℕ) → s .clock < length ws → moveBy o s ws ≡ examined (stepBy o s (getD ws (s .clock) 0))
