@@ -1,3 +1,7 @@
--- EitherForm: demand 3 for calls of either form. Behind: what the walks of the two calls share.
+-- EitherForm: demand 3 for calls of either form. Walk: a whole walk and the published verdict. The others are what the proofs by hand
+-- have in common: Behind, a plain struct behind a `&mut`; Lending, a local that is lent; Cursors, the struct that holds the words.
 pub mod EitherForm
-mod Behind
+pub mod Walk
+pub mod Behind
+pub mod Lending
+pub mod Cursors

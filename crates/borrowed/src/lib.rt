@@ -1,5 +1,6 @@
-// The calls on what the caller lends.
+// Calls on what the caller lends, which finds it changed in place.
 mod calls;
+pub mod cursor;
 
 pub use calls::Given;
 pub use calls::offer;

@@ -1,0 +1,116 @@
+-- What an advance of a walk does, for every state there is; and a whole walk, beside the published verdict.
+use Prim.Native.Nat.{ℕ, zero, suc, _≤_, _<_}
+use mathlib.Core.Path.{_≡_}
+use mathlib.Core.Bool.{cond}
+use mathlib.Core.List.{List, [], _∷_}
+use lib.ListN.{length, getD}
+use lib.Dec.{eqb, ltb}
+use Rattle.config.specs.Outcome.{Outcome, value, refused}
+use Rattle.config.specs.Numbers.{refusalNumber}
+use Rattle.config.specs.Sheet.{timingOf}
+use Rattle.config.specs.declared.Config.{Config}
+use Rattle.config.specs.declared.Timing.{Timing}
+use Rattle.rules.specs.Verdict.{Judgement, accepted, breach, judge}
+use Rattle.protocol.specs.Steps.{Step, fresh, clockFits, judged, stepOf}
+use Rattle.protocol.specs.declared.checker.Checker.{Checker}
+use Rattle.borrowed.specs.declared.cursor.Moved.{Moved}
+use Rattle.borrowed.specs.declared.cursor.Progress.{Progress}
+use Rattle.borrowed.specs.declared.cursor.Progress.the-variants.{Passed, InBreach, Refused, End}
+
+-- what an advance reaches: its word passed, it breached (clock and number), or no word was left
+pub data Reached : Type 0 where
+  passed : Reached
+  breached : ℕ → ℕ → Reached
+  ended : Reached
+
+-- what an answer is in the paper's terms
+abbrev pub progressOutcome : Progress → Outcome Reached
+progressOutcome Passed = value passed
+progressOutcome (InBreach b) = value (breached (b .clock) (b .number))
+progressOutcome (Refused r) = refused (refusalNumber r)
+progressOutcome End = value ended
+
+-- an advance's answer, and the state that it leaves
+pub record Move : Type 0 where
+  pub outcome : Outcome Reached
+  pub after : Checker
+
+abbrev pub moved : Moved → Move
+moved r = record { outcome = progressOutcome (r .progress); after = r .checker }
+
+-- the state stays, and so does the word that is the next
+abbrev pub staying : Checker → Outcome Reached → Move
+staying s o = record { outcome = o; after = s }
+
+-- of a single word, accepted says that it passed
+abbrev pub ofWord : Outcome Judgement → Outcome Reached
+ofWord (value accepted) = value passed
+ofWord (value (breach k n)) = value (breached k n)
+ofWord (refused n) = refused n
+
+abbrev pub examined : Step → Move
+examined r = record { outcome = ofWord (r .outcome); after = r .after }
+
+-- "Examiner step and walk: 23 state already in breach; 24 clock 16,777,216 reached … A walk with no word left says end and stays, ahead
+-- of 23 and 24." The sheet's refusals and 19 come first; what is judged is the word at the clock.
+abbrev pub moveBy : Outcome Timing → Checker → List ℕ → Move
+moveBy (refused n) s ws = staying s (refused n)
+moveBy (value t) s ws =
+    cond (clockFits (s .clock) (s .first) (s .stamps))
+    (cond (ltb (s .clock) (length ws))
+    (cond (eqb (s .breach .number) 0)
+    (cond (ltb (s .clock) 16777216) (examined (judged t s (getD ws (s .clock) 0))) (staying s (refused 24)))
+    (staying s (refused 23)))
+    (staying s (value ended)))
+    (staying s (refused 19))
+
+abbrev pub moveOf : Checker → List ℕ → Move
+moveOf s ws = moveBy (timingOf (s .config)) s ws
+
+-- the state after n advances, whatever each answered
+abbrev pub advanced : ℕ → Checker → List ℕ → Checker
+advanced zero s ws = s
+advanced (suc n) s ws = advanced n (moveOf s ws .after) ws
+
+-- the first answer of n advances that is no pass
+abbrev pub unless : Outcome Reached → Outcome Reached → Outcome Reached
+unless (value passed) rest = rest
+unless (value (breached k n)) rest = value (breached k n)
+unless (value ended) rest = value ended
+unless (refused n) rest = refused n
+
+abbrev pub walking : ℕ → Checker → List ℕ → Outcome Reached
+walking zero s ws = value passed
+walking (suc n) s ws = let rest = walking n (moveOf s ws .after) ws in unless (moveOf s ws .outcome) rest
+
+-- where a whole walk stops, by the verdict on its words
+abbrev pub stopOf : Judgement → Reached
+stopOf accepted = ended
+stopOf (breach k n) = breached k n
+
+-- a call on a state: one word is examined, or a walk over some words is advanced
+pub data Call : Type 0 where
+  step : ℕ → Call
+  advance : List ℕ → Call
+
+abbrev pub afterCall : Checker → Call → Checker
+afterCall s (step w) = stepOf s w .after
+afterCall s (advance ws) = moveOf s ws .after
+
+abbrev pub afterCalls : Checker → List Call → Checker
+afterCalls s [] = s
+afterCalls s (x ∷ xs) = afterCalls (afterCall s x) xs
+
+pub record Walk : Type 0 where
+  -- for every accepted configuration and every trace that the whole check takes: a fresh walk that is advanced until it does not pass, at
+  -- the latest one advance after its last word, gives the published verdict
+  pub verdict : (c : Config) (t : Timing) (ws : List ℕ) (n : ℕ) → timingOf c ≡ value t → length ws ≤ 16777216 → length ws < n
+      → walking n (fresh c) ws ≡ value (stopOf (judge t ws))
+  -- it says end where its words have run out, and nowhere else
+  pub end-there : (c : Config) (t : Timing) (ws : List ℕ) (n : ℕ) → timingOf c ≡ value t → advanced n (fresh c) ws .clock ≡ length ws
+      → moveOf (advanced n (fresh c) ws) ws .outcome ≡ value ended
+  pub only-there : (c : Config) (ws : List ℕ) (n : ℕ) → moveOf (advanced n (fresh c) ws) ws .outcome ≡ value ended
+      → advanced n (fresh c) ws .clock ≡ length ws
+  -- "No state that calls make from a fresh one refuses 19."
+  pub never-19 : (c : Config) (xs : List Call) (ws : List ℕ) → moveOf (afterCalls (fresh c) xs) ws .outcome ≡ refused 19 → ⊥
+  pub step-never-19 : (c : Config) (xs : List Call) (w : ℕ) → stepOf (afterCalls (fresh c) xs) w .outcome ≡ refused 19 → ⊥
