@@ -68,10 +68,10 @@ pub fn next_word(words: &[u32], checker: Checker) -> Moved
     if at < words.len() {
         let stepped = checker.step(words[at]);
         let verdict = stepped.verdict;
-        let checker = stepped.checker;
+        let after = stepped.checker;
         Moved {
             progress: of_word(verdict),
-            checker,
+            checker: after,
         }
     } else {
         Moved {
