@@ -12,7 +12,7 @@ pub struct Line {
 }
 
 impl Line {
-    pub fn empty() -> Line
+    pub(crate) fn empty() -> Line
         ensures { λ r. ⌜ (text r ≡ []) × (r .len ≡ 0) ⌝ }
     {
         Line {
@@ -21,7 +21,7 @@ impl Line {
         }
     }
 
-    pub fn push(self, byte: u8) -> Line
+    pub(crate) fn push(self, byte: u8) -> Line
         requires { ⌜ self .len < 40 ⌝ }
         ensures { λ r. ⌜ (text r ≡ text self ++ (byte ∷ [])) × (r .len ≡ self .len + 1) ⌝ }
     {
@@ -40,7 +40,7 @@ impl Line {
     }
 
     // A number in decimal.
-    pub fn number(self, n: u32) -> Line
+    pub(crate) fn number(self, n: u32) -> Line
         requires { ⌜ self .len ≤ 30 ⌝ }
         ensures { λ r. ⌜ (text r ≡ text self ++ decimal n) × (r .len ≤ self .len + 10) ⌝ }
     {
@@ -57,7 +57,7 @@ impl Line {
     }
 
     // A piece of text.
-    pub fn piece(self, piece: &[u8]) -> Line
+    pub(crate) fn piece(self, piece: &[u8]) -> Line
         requires { ⌜ self .len + length (now piece) ≤ 40 ⌝ }
         ensures { λ r. ⌜ (text r ≡ text self ++ now (piece .entry)) × (r .len ≡ self .len + length (now (piece .entry))) ⌝ }
     {
@@ -72,7 +72,7 @@ impl Line {
 }
 
 // Writes the line to standard output.
-pub fn write(line: Line)
+pub(crate) fn write(line: Line)
     requires { ⌜ line .len ≤ 40 ⌝ }
 {
     let bytes = line.bytes;

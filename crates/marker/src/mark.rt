@@ -36,7 +36,7 @@ fn refused(why: u32) -> Line
 }
 
 // The line for what was read: refused 25 for more than 65,536 bytes, otherwise the verdict on the institute's own configuration.
-pub fn line_of(bytes: &[u8]) -> Line
+pub(crate) fn line_of(bytes: &[u8]) -> Line
     ensures { λ r. ⌜ (text r ≡ lineOf (now (bytes .entry))) × (r .len ≤ 40) ⌝ }
 {
     if 65536 < bytes.len() {
