@@ -91,7 +91,8 @@ pub fn new<'a>(words: &'a [u32], config: Config) -> TraceCursor<'a>
 
 // Examines one more word. The walk is left with the same words, and with the checker that `next_word` gives.
 pub fn advance<'s, 'a>(cursor: &'s mut TraceCursor<'a>) -> Progress
-    ensures { λ r. ⌜ (now (cursor .exit) .words ≡ now (cursor .entry) .words) × (moved (record { progress = r; checker = now (cursor .exit) .checker }) ≡ moveOf (now (cursor .entry) .checker) (now (now (cursor .entry) .words))) ⌝ }
+    ensures { λ r. ⌜ (now (cursor .exit) .words ≡ now (cursor .entry) .words)
+        × (moved (record { progress = r; checker = now (cursor .exit) .checker }) ≡ moveOf (now (cursor .entry) .checker) (now (now (cursor .entry) .words))) ⌝ }
 {
     let moved = next_word(cursor.words, cursor.checker);
     cursor.checker = moved.checker;

@@ -40,7 +40,6 @@ use denote.Triple.Spec.{Meets, tripleOf}
 use denote.Triple.Table.{entered, cited}
 use denote.Triple.Walked.{says, Stays, stay-ref, walkOf, goes-ref, Walks, ends-at, walked, walk-meets}
 use denote.Triple.Clauses.{ensured, lasts}
-use Rattle.borrowed.proofs.cursor.next_word.Symbol.{name as #next}
 use Rattle.protocol.proofs.checker.Checker as K
 use Rattle.borrowed.specs.Walk.{moved, moveOf}
 use Rattle.borrowed.specs.declared.cursor.TraceCursor.{TraceCursor}
@@ -54,6 +53,7 @@ use Rattle.borrowed.proofs.cursor.Progress as P
 use Rattle.borrowed.proofs.cursor.Progress.Laws as P′
 use Rattle.borrowed.proofs.cursor.next_word as next
 use Rattle.borrowed.proofs.cursor.next_word.Symbol as next-def
+use Rattle.borrowed.proofs.cursor.next_word.Symbol.{name as #next}
 use Rattle.borrowed.proofs.cursor.next_word.Met as next-thm
 use Rattle.borrowed.proofs.cursor.advance.Key.{name as #advance}
 use Rattle.borrowed.proofs.cursor.advance as advance
