@@ -7,3 +7,4 @@ pub mod Tests
 pub mod Words
 pub mod Kept
 pub mod Refinement
+pub mod Far

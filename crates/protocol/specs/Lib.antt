@@ -5,5 +5,6 @@ pub mod Rules
 pub mod Verdict
 pub mod Cases
 pub mod Stamps
+pub mod Quick
 pub mod Steps
 pub mod Refinement

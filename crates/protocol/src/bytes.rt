@@ -2,15 +2,21 @@
 use crate::checker::Breach;
 use crate::checker::LIMIT;
 use crate::checker::Verdict;
-use crate::rules::word_breach;
+use crate::quick::past_desl;
+use crate::quick::plus;
+use crate::quick::quick_breach;
+use crate::quick::settled_from;
 use crate::stamps::DESL;
 use crate::stamps::Timestamps;
 use crate::stamps::next_first;
+use command::pins::BA0;
 use command::pins::CS;
+use command::pins::FN;
 use config::Config;
 use config::Refusal;
 use config::Timing;
 use config::TimingAnswer;
+use config::choose;
 ghost use mathlib.Core.Path.{_≡_};
 ghost use Prim.Native.Nat.{_≤_, _/_};
 ghost use lib.ListN.{length};
@@ -24,20 +30,34 @@ fn judged_bytes(timing: Timing, bytes: &[u8]) -> Verdict
     ensures { λ r. ⌜ verdictOutcome r ≡ value (judge timing (wordsOf (now (bytes .entry)))) ⌝ }
 {
     let mut stamps = Timestamps::never();
+    let mut from = settled_from(timing, stamps);
     let mut first = DESL;
     let mut clock: u32 = 0;
     while (clock as usize) < bytes.len() / 4 {
         let word = words::word_at(bytes, clock as usize);
-        let number = word_breach(timing, stamps, clock, first, word);
+        let bank = (first / BA0 % 8) as usize;
+        let number = quick_breach(timing, stamps, stamps.banks[bank], from, clock, first, word);
         if number != 0 {
             return Verdict::InBreach(Breach { clock, number });
         }
         let opened = !(first / CS % 2 == 1);
         if opened {
-            stamps = stamps.remembered(clock, first, word);
+            let lal = word / CS % 2 == 1;
+            if lal {
+                let rda = first / FN % 2 == 1;
+                stamps.banks[bank] = clock;
+                stamps.read = choose(rda, clock, stamps.read);
+                stamps.write = choose(rda, stamps.write, clock);
+            } else {
+                stamps = stamps.remembered(clock, first, word);
+                from = settled_from(timing, stamps);
+            }
         }
         first = next_first(first, word);
         clock += 1;
+        if first == DESL {
+            clock = past_desl(bytes, clock, plus(stamps.refs[0], timing.refi));
+        }
     }
     Verdict::Accepted
 }

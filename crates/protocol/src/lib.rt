@@ -1,6 +1,7 @@
 // The published rules: a checker that keeps a bounded state, by the word and over a whole trace.
 mod bytes;
 mod checker;
+mod quick;
 mod rules;
 mod stamps;
 mod trace;
