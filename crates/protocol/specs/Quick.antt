@@ -2,10 +2,10 @@
 use Prim.Native.Nat.{ℕ, _+_, _/_, _^_, _≤_, _<_}
 use mathlib.Core.List.{List}
 use mathlib.Core.Path.{_≡_}
-use mathlib.Core.Bool.{Bool, true, false}
+use mathlib.Core.Bool.{false}
 use lib.ListN.{length, getD}
 use Rattle.config.specs.declared.Timing.{Timing}
-use Rattle.protocol.specs.Stamps.{near, notReady, tooClose}
+use Rattle.protocol.specs.Stamps.{near, notReady}
 use Rattle.protocol.specs.Verdict.{Judgement}
 use Rattle.protocol.specs.declared.stamps.Timestamps.{Timestamps}
 
@@ -20,12 +20,10 @@ Settled t s k =
 abbrev pub SettledFrom : Timing → Timestamps → ℕ → Type 0
 SettledFrom t s from = (k : ℕ) → k ≤ 16777216 → from ≤ k → Settled t s k
 
--- a read (by `rda`) or write that closes at any clock from this one on breaches neither rule 7, by its bank's timestamp, nor 8
-abbrev pub ApartFrom : Timing → Timestamps → ℕ → Bool → ℕ → Type 0
-ApartFrom t s bank rda from =
-    (k : ℕ) → from ≤ k → (near k bank (t .rc) ≡ false) × (tooClose rda true t (s .read) (s .write) k ≡ false)
-
--- from clock k to j there is nothing but DESL, and that no later than `until`: what such words do not change is the same at both
-abbrev pub OnlyDesl : ℕ → List ℕ → ℕ → ℕ → Type 0
-OnlyDesl until words k j =
-    (f : ℕ → Judgement) → ((i : ℕ) → i < length words → i ≤ until → getD words i 0 / 2 ^ 18 ≡ 3 → f i ≡ f (i + 1)) → f k ≡ f j
+-- from clock k to j there is nothing but DESL, no later than `until` and with no pair open: what such words do not change is the
+-- same at both
+abbrev pub OnlyDesl : ℕ → ℕ → List ℕ → ℕ → ℕ → Type 0
+OnlyDesl first until words k j =
+    (f : ℕ → Judgement)
+    → ((i : ℕ) → i < length words → i ≤ until → getD words i 0 / 2 ^ 18 ≡ 3 → first ≡ 0xC0000 → f i ≡ f (i + 1))
+    → f k ≡ f j

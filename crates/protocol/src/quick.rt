@@ -1,10 +1,9 @@
-// A quick look at a word: most words breach nothing, and show it by a few comparisons.
+// A quick look: what is true only of words that breach nothing, by a few comparisons.
 use crate::checker::LIMIT;
-use crate::rules::word_breach;
+use crate::stamps::DESL;
 use crate::stamps::Timestamps;
 use command::pins::CS;
 use command::pins::FN;
-use command::pins::PD;
 use config::Timing;
 use config::choose;
 ghost use mathlib.Core.Path.{_≡_};
@@ -13,8 +12,8 @@ ghost use Prim.Native.Nat.{_+_, _≤_, _/_};
 ghost use lib.ListN.{length};
 ghost use Rattle.command.specs.Reading.{lal};
 ghost use Rattle.words.specs.Words.{wordsOf};
-ghost use Rattle.protocol.specs.Stamps.{bankStamp, closingBreach, wordBreach};
-ghost use Rattle.protocol.specs.Quick.{SettledFrom, ApartFrom, OnlyDesl};
+ghost use Rattle.protocol.specs.Stamps.{bankStamp, closingBreach};
+ghost use Rattle.protocol.specs.Quick.{SettledFrom, OnlyDesl};
 
 // A timestamp and a number of clocks after it.
 pub fn plus(stamp: u32, clocks: u32) -> u64
@@ -41,21 +40,8 @@ pub fn settled_from(timing: Timing, stamps: Timestamps) -> u64
     later(plus(stamps.extended, 201), calm)
 }
 
-// A clock from which on a read or write breaches neither rule 7 nor 8; `bank` is its bank's timestamp.
-fn apart_from(timing: Timing, stamps: Timestamps, bank: u32, rda: bool) -> u64
-    ensures { λ r. ⌜ ApartFrom timing stamps bank rda r ⌝ }
-{
-    let other = choose(rda, stamps.write, stamps.read);
-    let turn = choose(rda, timing.wrd, timing.rwd);
-    let near = later(
-        plus(stamps.read, timing.rbd),
-        plus(stamps.write, timing.rbd),
-    );
-    later(later(plus(bank, timing.rc), near), plus(other, turn) + 1)
-}
-
-// True only where a read or write breaches none of rules 4 to 12.
-fn clear(
+// True only of a LAL word that breaches none of rules 4 to 12; `bank` is its bank's timestamp.
+pub fn clear(
     timing: Timing,
     stamps: Timestamps,
     bank: u32,
@@ -64,52 +50,43 @@ fn clear(
     first: u32,
     word: u32,
 ) -> bool
-    requires { ⌜ (lal word ≡ true) × (bank ≡ bankStamp stamps first) × SettledFrom timing stamps from × (clock ≤ 16777216) ⌝ }
-    ensures { λ r. ⌜ (r ≡ true → closingBreach timing stamps clock first word ≡ 0) ⌝ }
-{
-    let apart = apart_from(timing, stamps, bank, first / FN % 2 == 1);
-    if later(from, apart) <= clock as u64 {
-        return !command::lane_reserved(timing, first, word);
-    }
-    false
-}
-
-// The lowest breach number at a word.
-pub fn quick_breach(
-    timing: Timing,
-    stamps: Timestamps,
-    bank: u32,
-    from: u64,
-    clock: u32,
-    first: u32,
-    word: u32,
-) -> u32
     requires { ⌜ (bank ≡ bankStamp stamps first) × SettledFrom timing stamps from × (clock ≤ 16777216) ⌝ }
-    ensures { λ r. ⌜ r ≡ wordBreach timing stamps clock first word ⌝ }
+    ensures { λ r. ⌜ (r ≡ true → (lal word ≡ true) × (closingBreach timing stamps clock first word ≡ 0)) ⌝ }
 {
-    let refs = stamps.refs;
-    let until = plus(refs[0], timing.refi);
-    let sound = (word / PD == 1) & (clock as u64 <= until);
-    if sound {
-        let idle = first / CS % 2 == 1;
-        if idle {
-            return 0;
-        }
-        let lal = word / CS % 2 == 1;
-        if lal {
-            if clear(timing, stamps, bank, from, clock, first, word) {
-                return 0;
-            }
-        }
+    let now = clock as u64;
+    let rda = first / FN % 2 == 1;
+    let other = choose(rda, stamps.write, stamps.read);
+    let turn = choose(rda, timing.wrd, timing.rwd);
+    let lal = word / CS % 2 == 1;
+    if !lal {
+        return false;
     }
-    word_breach(timing, stamps, clock, first, word)
+    if now < from {
+        return false;
+    }
+    if now < plus(bank, timing.rc) {
+        return false;
+    }
+    if now < plus(stamps.read, timing.rbd) {
+        return false;
+    }
+    if now < plus(stamps.write, timing.rbd) {
+        return false;
+    }
+    if now <= plus(other, turn) {
+        return false;
+    }
+    !command::lane_reserved(timing, first, word)
 }
 
-// Passes over the DESL words from a clock on that stand no later than `until`.
-pub fn past_desl(bytes: &[u8], clock: u32, until: u64) -> u32
+// Passes over the DESL words from a clock on that stand no later than `until`, where no pair is open.
+pub fn past_desl(bytes: &[u8], first: u32, clock: u32, until: u64) -> u32
     requires { ⌜ (clock ≤ length (now bytes) / 4) × (length (now bytes) / 4 ≤ 16777216) ⌝ }
-    ensures { λ r. ⌜ (clock ≤ r) × (r ≤ length (now (bytes .entry)) / 4) × OnlyDesl until (wordsOf (now (bytes .entry))) clock r ⌝ }
+    ensures { λ r. ⌜ (clock ≤ r) × (r ≤ length (now (bytes .entry)) / 4) × OnlyDesl first until (wordsOf (now (bytes .entry))) clock r ⌝ }
 {
+    if first != DESL {
+        return clock;
+    }
     let mut at = clock;
     while (at as usize) < bytes.len() / 4 {
         let word = words::word_at(bytes, at as usize);

@@ -1,17 +1,19 @@
 -- As of a slice of words, by the list of words that the bytes make. Assumes nothing.
 use Prim.Native.Nat.{ℕ, _+_, _-_, _/_, _^_, _≤_, _<_}
 use mathlib.Core.Path.{_≡_, _∙_, sym}
-use mathlib.Core.Logic.{⊎-elim}
 use native.Mathlib.Omega.{arith}
 use borrow.Author.Needs.{needs}
+use borrow.Author.Tests.{eqb-true, leb-true}
+use lib.Dec.{eqb, leb}
 use lib.ListN.{length, drop, getD}
 use denote.Ref.{now}
+use Rattle.config.proofs.Bounds.{both}
 use Rattle.words.specs.Words.{wordsOf}
 use Rattle.words.proofs.Listed.{words-length, word-listed}
 use Rattle.protocol.specs.Verdict.{judge}
-use Rattle.protocol.specs.Stamps.{nextStamps, nextFirst}
+use Rattle.protocol.specs.Stamps.{earlyBreach, wordBreach, nextStamps, nextFirst}
 use Rattle.protocol.specs.Quick.{SettledFrom}
-use Rattle.protocol.proofs.Far.{desl-passes}
+use Rattle.protocol.proofs.Far.{early-kept, desl-passes}
 use Rattle.protocol.proofs.Words.{run, run-is, run-passes, run-breaches, run-ends}
 use Rattle.protocol.proofs.bytes.judged_bytes.Statement.{statement}
 use Rattle.protocol.proofs.bytes.judged_bytes.Tie as tie
@@ -25,34 +27,33 @@ Inv-loop timing bytes stamps₀ from₀ first₀ clock₀ stamps from first cloc
 abbrev μ-loop : tie.MeasureT-loop
 μ-loop timing bytes stamps₀ from₀ first₀ clock₀ stamps from first clock = length bytes / 4 - clock
 
--- the place is inside the list of words, and what was read is its word
-inside : (c : tie.In-loop Inv-loop μ-loop) → c .before .loop .clock < length (wordsOf (now (c .before .before .before .before .before .args .bytes)))
-inside c = rw (words-length (now (c .before .before .before .before .before .args .bytes))) (c .loop-test .taken)
+-- the place is inside the list of words, and what was read is its word; where it breaches nothing, the run goes on
+module _ (c : tie.After-word-at Inv-loop μ-loop) where
+  inside : c .before .before .loop .clock < length (wordsOf (now (c .before .before .before .before .before .before .args .bytes)))
+  inside = rw (words-length (now (c .before .before .before .before .before .before .args .bytes))) (c .before .loop-test .taken)
 
-word : (c : tie.After-word-at Inv-loop μ-loop) → c .word-at .result ≡ getD (wordsOf (now (c .before .before .before .before .before .before .args .bytes))) (c .before .before .loop .clock) 0
-word c = c .word-at .ensures ∙ word-listed (now (c .before .before .before .before .before .before .args .bytes)) (c .before .before .loop .clock) (c .before .loop-test .taken)
+  word : c .word-at .result ≡ getD (wordsOf (now (c .before .before .before .before .before .before .args .bytes))) (c .before .before .loop .clock) 0
+  word = c .word-at .ensures ∙ word-listed (now (c .before .before .before .before .before .before .args .bytes)) (c .before .before .loop .clock) (c .before .loop-test .taken)
 
-module _ (c : tie.Joined2 Inv-loop μ-loop) where
-  kept : (c .if2 .stamps ≡ nextStamps (c .before .before .before .before .before .before .loop .stamps) (c .before .before .before .before .before .before .loop .clock) (c .before .before .before .before .before .before .loop .first) (c .before .before .before .before .word-at .result))
-      × SettledFrom (c .before .before .before .before .before .before .before .before .before .before .args .timing) (c .if2 .stamps) (c .if2 .from)
-  kept =
-      let settled = c .before .before .before .before .before .before .loop .inv .2 in
-      ⊎-elim
-      (λ w. (rw (w .0 .taken, w .1 .taken) (w .4 ∙ rw (w .2 .ensures, w .3 .ensures)), rw (w .4, w .5) settled))
-      (⊎-elim
-      (λ w. (rw (w .0 .taken) (w .4 ∙ w .2 .ensures), rw (w .4, w .5) (w .3 .ensures)))
-      (λ w. (rw (w .0 .left) (w .1), rw (w .1, w .2) settled)))
-      (c .if2 .came)
+  passed : let l = c .before .before .loop in
+      let a = c .before .before .before .before .before .before .args in
+      let ws = wordsOf (now (a .bytes)) in
+      let w = c .word-at .result in
+      wordBreach (a .timing) (l .stamps) (l .clock) (l .first) w ≡ 0
+      → judge (a .timing) ws ≡ run (a .timing) (nextStamps (l .stamps) (l .clock) (l .first) w) (l .clock + 1) (nextFirst (l .first) w) (drop (l .clock + 1) ws)
+  passed e =
+      let l = c .before .before .loop in
+      let a = c .before .before .before .before .before .before .args in
+      rw (l .inv .1, word) (run-passes (a .timing) (l .stamps) (l .first) (wordsOf (now (a .bytes))) (l .clock) inside (rw (← word) e))
 
-  passed : judge (c .before .before .before .before .before .before .before .before .before .before .args .timing) (wordsOf (now (c .before .before .before .before .before .before .before .before .before .before .args .bytes)))
-      ≡ run (c .before .before .before .before .before .before .before .before .before .before .args .timing) (c .if2 .stamps) (c .before .before .before .before .before .before .loop .clock + 1) (nextFirst (c .before .before .before .before .before .before .loop .first) (c .before .before .before .before .word-at .result)) (drop (c .before .before .before .before .before .before .loop .clock + 1) (wordsOf (now (c .before .before .before .before .before .before .before .before .before .before .args .bytes))))
-  passed =
-      let l = c .before .before .before .before .before .before .loop in
-      let a = c .before .before .before .before .before .before .before .before .before .before .args in
-      let w = word (c .before .before .before .before) in
-      rw (kept .0, l .inv .1, w)
-      (run-passes (a .timing) (l .stamps) (l .first) (wordsOf (now (a .bytes))) (l .clock) (inside (c .before .before .before .before .before))
-      (rw (← w) (sym (c .before .before .quick-breach .ensures) ∙ c .before .if1 .left)))
+early : (c : tie.Then1 Inv-loop μ-loop) → let l = c .before .before .before .before .before .loop in
+    earlyBreach (c .before .before .before .before .before .before .before .before .before .args .timing .refi) (getD (l .stamps .refs) 0 0) (l .clock) (c .before .before .before .word-at .result) ≡ 0
+early c =
+    let l = c .before .before .before .before .before .loop in
+    let w = c .before .before .before .word-at .result in
+    let h = both (eqb (w / 2 ^ 19) 1) (leb (l .clock) (c .before .plus .result)) (c .if1 .taken) in
+    let due = leb-true (l .clock) (c .before .plus .result) (h .1) in
+    early-kept (c .before .before .before .before .before .before .before .before .before .args .timing .refi) (getD (l .stamps .refs) 0 0) (l .clock) w (eqb-true (w / 2 ^ 19) 1 (h .0)) (omega arith)
 
 never-requires : tie.Need-never-requires Inv-loop μ-loop
 never-requires c κs = search needs
@@ -77,22 +78,49 @@ word-at-requires c κs = search needs
 cast-bank : tie.Need-cast-bank Inv-loop μ-loop
 cast-bank c = search needs
 
-mul-quick-breach : tie.Need-mul-quick-breach Inv-loop μ-loop
-mul-quick-breach c = search needs
+element-copy-out-plus : tie.Need-element-copy-out-plus Inv-loop μ-loop
+element-copy-out-plus c = search needs
 
-element-copy-out-quick-breach : tie.Need-element-copy-out-quick-breach Inv-loop μ-loop
-element-copy-out-quick-breach c = search needs
+plus-requires : tie.Need-plus-requires Inv-loop μ-loop
+plus-requires c κs = search needs
 
-quick-breach-requires : tie.Need-quick-breach-requires Inv-loop μ-loop
-quick-breach-requires c κs = search needs
+cast-if1 : tie.Need-cast-if1 Inv-loop μ-loop
+cast-if1 c = search needs
 
-returns : tie.Need-returns Inv-loop μ-loop
-returns c =
-    let l = c .before .before .before .before .before .loop in
-    let a = c .before .before .before .before .before .before .before .before .before .args in
-    let w = word (c .before .before .before) in
-    rw
-    (l .inv .1, run-breaches (a .timing) (l .stamps) (l .first) (wordsOf (now (a .bytes))) (l .clock) (inside (c .before .before .before .before)) (λ e. c .if1 .taken (c .before .quick-breach .ensures ∙ (rw w e))), ← w, ← c .before .quick-breach .ensures)
+next-first-requires : tie.Need-next-first-requires Inv-loop μ-loop
+next-first-requires c κs = search needs
+
+add-past-desl : tie.Need-add-past-desl Inv-loop μ-loop
+add-past-desl c = search needs
+
+past-desl-requires : tie.Need-past-desl-requires Inv-loop μ-loop
+past-desl-requires c κs = search needs
+
+loop-less : tie.Need-loop-less Inv-loop μ-loop
+loop-less c = search needs
+
+loop-again : tie.Need-loop-again Inv-loop μ-loop
+loop-again c =
+    let l = c .before .before .before .before .before .before .before .before .loop in
+    let t = c .before .before .before .before .before .before .before .before .before .before .before .before .args .timing in
+    let ws = wordsOf (now (c .before .before .before .before .before .before .before .before .before .before .before .before .args .bytes)) in
+    let idle = c .before .before .if2 .taken in
+    let first = c .before .next-first .result in (
+      search needs,
+      (rw (c .before .next-first .ensures, idle) (rw idle at (passed (c .before .before .before .before .before .before) (rw (early (c .before .before .before), idle)))))
+          ∙ c .past-desl .ensures .2 (λ k. run t (l .stamps) k first (drop k ws))
+          (λ i h due e q. rw q (desl-passes t (l .stamps) ws i h (rw (← c .before .before .before .before .plus .ensures) due) e)),
+      l .inv .2,
+    )
+
+mul-clear : tie.Need-mul-clear Inv-loop μ-loop
+mul-clear c = search needs
+
+element-copy-out-clear : tie.Need-element-copy-out-clear Inv-loop μ-loop
+element-copy-out-clear c = search needs
+
+clear-requires : tie.Need-clear-requires Inv-loop μ-loop
+clear-requires c κs = search needs
 
 mul-stamps : tie.Need-mul-stamps Inv-loop μ-loop
 mul-stamps c = search needs
@@ -106,48 +134,51 @@ choose-requires c κs = search needs
 choose-requires-2 : tie.Need-choose-requires-2 Inv-loop μ-loop
 choose-requires-2 c κs = search needs
 
-remembered-requires : tie.Need-remembered-requires Inv-loop μ-loop
-remembered-requires c κs = search needs
-
-settled-from-requires-2 : tie.Need-settled-from-requires-2 Inv-loop μ-loop
-settled-from-requires-2 c κs = search needs
-
-next-first-requires : tie.Need-next-first-requires Inv-loop μ-loop
-next-first-requires c κs = search needs
-
 add-clock : tie.Need-add-clock Inv-loop μ-loop
 add-clock c = search needs
-
-element-copy-out-plus : tie.Need-element-copy-out-plus Inv-loop μ-loop
-element-copy-out-plus c = search needs
-
-plus-requires : tie.Need-plus-requires Inv-loop μ-loop
-plus-requires c κs = search needs
-
-past-desl-requires : tie.Need-past-desl-requires Inv-loop μ-loop
-past-desl-requires c κs = search needs
-
-loop-less : tie.Need-loop-less Inv-loop μ-loop
-loop-less c = search needs
-
-loop-again : tie.Need-loop-again Inv-loop μ-loop
-loop-again c =
-    let j = c .before .before .before .before .before in
-    let a = j .before .before .before .before .before .before .before .before .before .before .args in
-    let ws = wordsOf (now (a .bytes)) in (
-      search needs,
-      rw (c .before .before .before .if4 .taken)
-          ((rw (sym (c .before .before .before .before .next-first .ensures) ∙ c .before .before .before .if4 .taken) at (passed j))
-          ∙ c .past-desl .ensures .2 (λ k. run (a .timing) (j .if2 .stamps) k 0xC0000 (drop k ws))
-          (λ i h due e. desl-passes (a .timing) (j .if2 .stamps) ws i h (rw (← c .before .plus .ensures) due) e)),
-      kept j .1,
-    )
 
 loop-less-2 : tie.Need-loop-less-2 Inv-loop μ-loop
 loop-less-2 c = search needs
 
 loop-again-2 : tie.Need-loop-again-2 Inv-loop μ-loop
-loop-again-2 c = (search needs, rw (c .before .next-first .ensures) (passed (c .before .before)), kept (c .before .before) .1)
+loop-again-2 c =
+    let opened = c .before .before .before .before .before .if2 .left in
+    let clear = c .before .before .before .clear .ensures (c .before .before .if3 .taken) in
+    let run-on = passed (c .before .before .before .before .before .before .before .before .before) (rw (early (c .before .before .before .before .before .before), opened, clear .1)) in
+    (search needs, rw (c .before .choose .ensures, c .choose2 .ensures) (rw (opened, clear .0) at run-on), c .before .before .before .before .before .before .before .before .before .before .before .loop .inv .2)
+
+word-breach-requires : tie.Need-word-breach-requires Inv-loop μ-loop
+word-breach-requires c κs = search needs
+
+returns : tie.Need-returns Inv-loop μ-loop
+returns c =
+    let l = c .before .before .before .before .before .before .before .loop in
+    let a = c .before .before .before .before .before .before .before .before .before .before .before .args in
+    let w = word (c .before .before .before .before .before) in
+    rw
+    (l .inv .1, run-breaches (a .timing) (l .stamps) (l .first) (wordsOf (now (a .bytes))) (l .clock) (inside (c .before .before .before .before .before)) (λ e. c .if4 .taken (c .before .word-breach .ensures ∙ (rw w e))), ← w, ← c .before .word-breach .ensures)
+
+after-requires : tie.Need-after-requires Inv-loop μ-loop
+after-requires c κs = search needs
+
+settled-from-requires-2 : tie.Need-settled-from-requires-2 Inv-loop μ-loop
+settled-from-requires-2 c κs = search needs
+
+next-first-requires-2 : tie.Need-next-first-requires-2 Inv-loop μ-loop
+next-first-requires-2 c κs = search needs
+
+add-clock-2 : tie.Need-add-clock-2 Inv-loop μ-loop
+add-clock-2 c = search needs
+
+loop-less-3 : tie.Need-loop-less-3 Inv-loop μ-loop
+loop-less-3 c = search needs
+
+loop-again-3 : tie.Need-loop-again-3 Inv-loop μ-loop
+loop-again-3 c = (
+  search needs,
+  rw (c .before .before .after .ensures, c .next-first2 .ensures) (passed (c .before .before .before .before .before .before .before .before) (sym (c .before .before .before .before .word-breach .ensures) ∙ c .before .before .before .if4 .left)),
+  c .before .settled-from2 .ensures,
+)
 
 returns-2 : tie.Need-returns-2 Inv-loop μ-loop
 returns-2 c =
@@ -169,23 +200,30 @@ judged-bytes-spec =
     cast-word-at
     word-at-requires
     cast-bank
-    mul-quick-breach
-    element-copy-out-quick-breach
-    quick-breach-requires
-    returns
+    element-copy-out-plus
+    plus-requires
+    cast-if1
+    next-first-requires
+    add-past-desl
+    past-desl-requires
+    loop-less
+    loop-again
+    mul-clear
+    element-copy-out-clear
+    clear-requires
     mul-stamps
     element-write-stamps
     choose-requires
     choose-requires-2
-    remembered-requires
-    settled-from-requires-2
-    next-first-requires
     add-clock
-    element-copy-out-plus
-    plus-requires
-    past-desl-requires
-    loop-less
-    loop-again
     loop-less-2
     loop-again-2
+    word-breach-requires
+    returns
+    after-requires
+    settled-from-requires-2
+    next-first-requires-2
+    add-clock-2
+    loop-less-3
+    loop-again-3
     returns-2)
