@@ -3,8 +3,8 @@ use crate::checker::Breach;
 use crate::checker::LIMIT;
 use crate::checker::Verdict;
 use crate::quick::clear;
+use crate::quick::due;
 use crate::quick::past_desl;
-use crate::quick::plus;
 use crate::quick::settled_from;
 use crate::rules::word_breach;
 use crate::stamps::DESL;
@@ -39,7 +39,7 @@ fn judged_bytes(timing: Timing, bytes: &[u8]) -> Verdict
     while (clock as usize) < bytes.len() / 4 {
         let word = words::word_at(bytes, clock as usize);
         let bank = (first / BA0 % 8) as usize;
-        let until = plus(stamps.refs[0], timing.refi);
+        let until = due(timing.refi, stamps.refs[0]);
         if (word / PD == 1) & (clock as u64 <= until) {
             let idle = first / CS % 2 == 1;
             if idle {

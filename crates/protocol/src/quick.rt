@@ -7,19 +7,29 @@ use command::pins::FN;
 use config::Timing;
 use config::choose;
 ghost use mathlib.Core.Path.{_≡_};
-ghost use mathlib.Core.Bool.{true};
-ghost use Prim.Native.Nat.{_+_, _≤_, _/_};
+ghost use mathlib.Core.Bool.{true, false};
+ghost use Prim.Native.Nat.{ℕ, _+_, _≤_, _/_};
 ghost use lib.ListN.{length};
 ghost use Rattle.command.specs.Reading.{lal};
 ghost use Rattle.words.specs.Words.{wordsOf};
-ghost use Rattle.protocol.specs.Stamps.{bankStamp, closingBreach};
+ghost use Rattle.protocol.specs.Stamps.{overdue, bankStamp, closingBreach};
 ghost use Rattle.protocol.specs.Quick.{SettledFrom, OnlyDesl};
 
 // A timestamp and a number of clocks after it.
-pub fn plus(stamp: u32, clocks: u32) -> u64
+fn plus(stamp: u32, clocks: u32) -> u64
     ensures { λ r. ⌜ r ≡ stamp + clocks ⌝ }
 {
     stamp as u64 + clocks as u64
+}
+
+// The last clock that rule 3 allows; any one where there was no REF word yet.
+pub fn due(refi: u32, last: u32) -> u64
+    ensures { λ r. ⌜ ((k : ℕ) → k ≤ r → overdue refi last k ≡ false) ⌝ }
+{
+    if last == 0 {
+        return LIMIT as u64;
+    }
+    plus(last, refi)
 }
 
 fn later(a: u64, b: u64) -> u64

@@ -51,9 +51,9 @@ early : (c : tie.Then1 Inv-loop μ-loop) → let l = c .before .before .before .
 early c =
     let l = c .before .before .before .before .before .loop in
     let w = c .before .before .before .word-at .result in
-    let h = both (eqb (w / 2 ^ 19) 1) (leb (l .clock) (c .before .plus .result)) (c .if1 .taken) in
-    let due = leb-true (l .clock) (c .before .plus .result) (h .1) in
-    early-kept (c .before .before .before .before .before .before .before .before .before .args .timing .refi) (getD (l .stamps .refs) 0 0) (l .clock) w (eqb-true (w / 2 ^ 19) 1 (h .0)) (omega arith)
+    let h = both (eqb (w / 2 ^ 19) 1) (leb (l .clock) (c .before .due .result)) (c .if1 .taken) in
+    let due = c .before .due .ensures (l .clock) (leb-true (l .clock) (c .before .due .result) (h .1)) in
+    early-kept (c .before .before .before .before .before .before .before .before .before .args .timing .refi) (getD (l .stamps .refs) 0 0) (l .clock) w (eqb-true (w / 2 ^ 19) 1 (h .0)) due
 
 never-requires : tie.Need-never-requires Inv-loop μ-loop
 never-requires c κs = search needs
@@ -78,11 +78,11 @@ word-at-requires c κs = search needs
 cast-bank : tie.Need-cast-bank Inv-loop μ-loop
 cast-bank c = search needs
 
-element-copy-out-plus : tie.Need-element-copy-out-plus Inv-loop μ-loop
-element-copy-out-plus c = search needs
+element-copy-out-due : tie.Need-element-copy-out-due Inv-loop μ-loop
+element-copy-out-due c = search needs
 
-plus-requires : tie.Need-plus-requires Inv-loop μ-loop
-plus-requires c κs = search needs
+due-requires : tie.Need-due-requires Inv-loop μ-loop
+due-requires c κs = search needs
 
 cast-if1 : tie.Need-cast-if1 Inv-loop μ-loop
 cast-if1 c = search needs
@@ -109,7 +109,7 @@ loop-again c =
       search needs,
       (rw (c .before .next-first .ensures, idle) (rw idle at (passed (c .before .before .before .before .before .before) (rw (early (c .before .before .before), idle)))))
           ∙ c .past-desl .ensures .2 (λ k. run t (l .stamps) k first (drop k ws))
-          (λ i h due e q. rw q (desl-passes t (l .stamps) ws i h (rw (← c .before .before .before .before .plus .ensures) due) e)),
+          (λ i h due e q. rw q (desl-passes t (l .stamps) ws i h (c .before .before .before .before .due .ensures i due) e)),
       l .inv .2,
     )
 
@@ -200,8 +200,8 @@ judged-bytes-spec =
     cast-word-at
     word-at-requires
     cast-bank
-    element-copy-out-plus
-    plus-requires
+    element-copy-out-due
+    due-requires
     cast-if1
     next-first-requires
     add-past-desl
