@@ -5,6 +5,6 @@ pub mod Newest
 pub mod Summary
 pub mod Tests
 pub mod Words
+pub mod Far
 pub mod Kept
 pub mod Refinement
-pub mod Far

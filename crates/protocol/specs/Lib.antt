@@ -1,5 +1,5 @@
 -- The published rules (History, Rules, Verdict) with the paper's cases; and apart from them what the code's contracts say of
--- bounded states (Stamps, Steps), which the theorem of Refinement joins to the rules.
+-- bounded states (Stamps, Quick, Steps), which the theorem of Refinement joins to the rules.
 pub mod History
 pub mod Rules
 pub mod Verdict

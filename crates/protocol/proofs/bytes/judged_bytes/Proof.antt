@@ -1,7 +1,7 @@
--- As of a slice of words, by the list of words that the bytes make. Assumes nothing.
-use Prim.Native.Nat.{ℕ, _+_, _-_, _/_, _^_, _≤_, _<_}
+-- As of a slice of words, by the list of words that the bytes make; beside it, the clock from which on reads and writes are settled.
+-- Assumes nothing.
+use Prim.Native.Nat.{_+_, _-_, _/_, _^_, _≤_, _<_}
 use mathlib.Core.Path.{_≡_, _∙_, sym}
-use native.Mathlib.Omega.{arith}
 use borrow.Author.Needs.{needs}
 use borrow.Author.Tests.{eqb-true, leb-true}
 use lib.Dec.{eqb, leb}

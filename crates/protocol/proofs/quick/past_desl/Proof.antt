@@ -1,6 +1,6 @@
 -- What a DESL word does not change is the same after each. Assumes nothing.
 use Prim.Native.Nat.{_-_, _/_, _^_, _≤_}
-use mathlib.Core.Path.{_≡_, refl, _∙_}
+use mathlib.Core.Path.{refl, _∙_}
 use borrow.Author.Needs.{needs}
 use borrow.Author.Tests.{not-false, eqb-true, leb-true}
 use lib.Dec.{eqb, leb}
