@@ -1,5 +1,4 @@
 // A quick look: what is true only of words that breach nothing, by a few comparisons.
-use crate::checker::LIMIT;
 use crate::stamps::DESL;
 use crate::stamps::Timestamps;
 use command::pins::CS;
@@ -15,6 +14,9 @@ ghost use Rattle.words.specs.Words.{wordsOf};
 ghost use Rattle.protocol.specs.Stamps.{overdue, bankStamp, closingBreach};
 ghost use Rattle.protocol.specs.Quick.{SettledFrom, OnlyDesl};
 
+// Past every clock of a trace.
+const NEVER: u64 = 16777217;
+
 // A timestamp and a number of clocks after it.
 fn plus(stamp: u32, clocks: u32) -> u64
     ensures { λ r. ⌜ r ≡ stamp + clocks ⌝ }
@@ -27,7 +29,7 @@ pub fn due(refi: u32, last: u32) -> u64
     ensures { λ r. ⌜ ((k : ℕ) → k ≤ r → overdue refi last k ≡ false) ⌝ }
 {
     if last == 0 {
-        return LIMIT as u64;
+        return NEVER;
     }
     plus(last, refi)
 }
@@ -44,7 +46,7 @@ pub fn settled_from(timing: Timing, stamps: Timestamps) -> u64
 {
     let refs = stamps.refs;
     if (stamps.extended == 0) | (stamps.regular == 0) | (refs[1] == 0) {
-        return LIMIT as u64 + 1;
+        return NEVER;
     }
     let calm = later(plus(stamps.mode, timing.rsc), plus(refs[0], timing.refc));
     later(plus(stamps.extended, 201), calm)

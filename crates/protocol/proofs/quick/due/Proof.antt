@@ -8,9 +8,6 @@ use borrow.Author.Needs.{needs}
 use Rattle.protocol.proofs.quick.due.Statement.{statement}
 use Rattle.protocol.proofs.quick.due.Tie as tie
 
-cast-result : tie.Need-cast-result
-cast-result c = search needs
-
 returns : tie.Need-returns
 returns c k h = rw (c .if1 .taken)
 
@@ -23,4 +20,4 @@ returns-2 c k h =
     rw (le-ltb (a .last + a .refi) k (omega arith)) (and-false (not (eqb (a .last) 0)))
 
 pub due-spec : {M : Type 1} → statement M
-due-spec = tie.close (tie.spec cast-result returns plus-requires returns-2)
+due-spec = tie.close (tie.spec returns plus-requires returns-2)

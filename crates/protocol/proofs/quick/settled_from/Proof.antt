@@ -11,12 +11,6 @@ use Rattle.protocol.proofs.quick.settled_from.Tie as tie
 array-read-if1 : tie.Need-array-read-if1
 array-read-if1 c = search needs
 
-cast-result : tie.Need-cast-result
-cast-result c = search needs
-
-add-result : tie.Need-add-result
-add-result c = search needs
-
 returns : tie.Need-returns
 returns c k h from = absurd (omega arith)
 
@@ -52,8 +46,6 @@ settled-from-spec =
     tie.close
     (tie.spec
     array-read-if1
-    cast-result
-    add-result
     returns
     plus-requires
     array-read-plus
