@@ -2,11 +2,19 @@
 use crate::checker::Breach;
 use crate::checker::LIMIT;
 use crate::checker::Verdict;
+use crate::quick::clear;
+use crate::quick::due;
+use crate::quick::past_desl;
+use crate::quick::settled_from;
+use command::pins::BA0;
 use command::pins::CS;
+use command::pins::FN;
+use command::pins::PD;
 use config::Config;
 use config::Refusal;
 use config::Timing;
 use config::TimingAnswer;
+use config::choose;
 use rules::DESL;
 use rules::Timestamps;
 use rules::next_first;
@@ -19,23 +27,42 @@ ghost use Rattle.words.specs.Words.{wordsOf};
 ghost use Rattle.rules.specs.Verdict.{judge, checkBytesOf};
 ghost use Rattle.protocol.specs.Steps.{verdictOutcome};
 
+// Most words show by a few comparisons that they breach nothing; the others are tested by every rule.
 fn judged_bytes(timing: Timing, bytes: &[u8]) -> Verdict
     requires { ⌜ length (now bytes) / 4 ≤ 16777216 ⌝ }
     ensures { λ r. ⌜ verdictOutcome r ≡ value (judge timing (wordsOf (now (bytes .entry)))) ⌝ }
 {
     let mut stamps = Timestamps::never();
+    let mut from = settled_from(timing, stamps);
     let mut first = DESL;
     let mut clock: u32 = 0;
     while (clock as usize) < bytes.len() / 4 {
         let word = words::word_at(bytes, clock as usize);
+        let bank = (first / BA0 % 8) as usize;
+        let until = due(timing.refi, stamps.refs[0]);
+        if (word / PD == 1) & (clock as u64 <= until) {
+            let idle = first / CS % 2 == 1;
+            if idle {
+                first = next_first(first, word);
+                clock = past_desl(bytes, first, clock + 1, until);
+                continue;
+            }
+            if clear(timing, stamps, stamps.banks[bank], from, clock, first, word) {
+                let rda = first / FN % 2 == 1;
+                stamps.banks[bank] = clock;
+                stamps.read = choose(rda, clock, stamps.read);
+                stamps.write = choose(rda, stamps.write, clock);
+                first = DESL;
+                clock += 1;
+                continue;
+            }
+        }
         let number = word_breach(timing, stamps, clock, first, word);
         if number != 0 {
             return Verdict::InBreach(Breach { clock, number });
         }
-        let opened = !(first / CS % 2 == 1);
-        if opened {
-            stamps = stamps.remembered(clock, first, word);
-        }
+        stamps = stamps.after(clock, first, word);
+        from = settled_from(timing, stamps);
         first = next_first(first, word);
         clock += 1;
     }

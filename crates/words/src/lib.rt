@@ -17,10 +17,8 @@ pub fn word_at(bytes: &[u8], index: usize) -> u32
 {
     if index < bytes.len() / 4 {
         let at = 4 * index;
-        byte(bytes, at)
-            + byte(bytes, at + 1) * 0x100
-            + byte(bytes, at + 2) * 0x10000
-            + byte(bytes, at + 3) * 0x1000000
+        let rest = &bytes[at..];
+        byte(rest, 0) + byte(rest, 1) * 0x100 + byte(rest, 2) * 0x10000 + byte(rest, 3) * 0x1000000
     } else {
         0
     }

@@ -1,41 +1,70 @@
--- As of a slice of words, by the list of words that the bytes make. Assumes nothing.
-use Prim.Native.Nat.{_-_, _/_, _≤_, _<_}
+-- As of a slice of words, by the list of words that the bytes make; beside it, the clock from which on reads and writes are settled.
+-- Assumes nothing.
+use Prim.Native.Nat.{_+_, _-_, _/_, _^_, _≤_, _<_}
 use mathlib.Core.Path.{_≡_, _∙_, sym}
-use mathlib.Core.Logic.{⊎-elim}
 use borrow.Author.Needs.{needs}
+use borrow.Author.Tests.{eqb-true, leb-true}
+use lib.Dec.{eqb, leb}
 use lib.ListN.{length, drop, getD}
 use denote.Ref.{now}
+use Rattle.config.proofs.Bounds.{both}
 use Rattle.words.specs.Words.{wordsOf}
 use Rattle.words.proofs.Listed.{words-length, word-listed}
 use Rattle.rules.specs.Verdict.{judge}
-use Rattle.rules.specs.Stamps.{nextStamps}
+use Rattle.rules.specs.Stamps.{earlyBreach, wordBreach, nextStamps, nextFirst}
+use Rattle.protocol.specs.Quick.{SettledFrom}
+use Rattle.protocol.proofs.Far.{early-kept, desl-passes}
 use Rattle.rules.proofs.Words.{run, run-is, run-passes, run-breaches, run-ends}
 use Rattle.protocol.proofs.bytes.judged_bytes.Statement.{statement}
 use Rattle.protocol.proofs.bytes.judged_bytes.Tie as tie
 
 abbrev Inv-loop : tie.InvT-loop
-Inv-loop timing bytes stamps₀ first₀ clock₀ stamps first clock =
-    (clock ≤ length bytes / 4) × (judge timing (wordsOf bytes) ≡ run timing stamps clock first (drop clock (wordsOf bytes)))
+Inv-loop timing bytes stamps₀ from₀ first₀ clock₀ stamps from first clock =
+    (clock ≤ length bytes / 4)
+    × (judge timing (wordsOf bytes) ≡ run timing stamps clock first (drop clock (wordsOf bytes)))
+    × SettledFrom timing stamps from
 
 abbrev μ-loop : tie.MeasureT-loop
-μ-loop timing bytes stamps₀ first₀ clock₀ stamps first clock = length bytes / 4 - clock
+μ-loop timing bytes stamps₀ from₀ first₀ clock₀ stamps from first clock = length bytes / 4 - clock
 
--- the place is inside the list of words, and what was read is its word
-inside : (c : tie.In-loop Inv-loop μ-loop) → c .before .loop .clock < length (wordsOf (now (c .before .before .before .before .args .bytes)))
-inside c = rw (words-length (now (c .before .before .before .before .args .bytes))) (c .loop-test .taken)
+-- the place is inside the list of words, and what was read is its word; where it breaches nothing, the run goes on
+module _ (c : tie.After-word-at Inv-loop μ-loop) where
+  inside : c .before .before .loop .clock < length (wordsOf (now (c .before .before .before .before .before .before .args .bytes)))
+  inside = rw (words-length (now (c .before .before .before .before .before .before .args .bytes))) (c .before .loop-test .taken)
 
-word : (c : tie.After-word-at Inv-loop μ-loop) → c .word-at .result ≡ getD (wordsOf (now (c .before .before .before .before .before .args .bytes))) (c .before .before .loop .clock) 0
-word c = c .word-at .ensures ∙ word-listed (now (c .before .before .before .before .before .args .bytes)) (c .before .before .loop .clock) (c .before .loop-test .taken)
+  word : c .word-at .result ≡ getD (wordsOf (now (c .before .before .before .before .before .before .args .bytes))) (c .before .before .loop .clock) 0
+  word = c .word-at .ensures ∙ word-listed (now (c .before .before .before .before .before .before .args .bytes)) (c .before .before .loop .clock) (c .before .loop-test .taken)
 
--- what is kept after the word, by whether a pair was open
-kept : (c : tie.Joined2 Inv-loop μ-loop) → c .if2 .stamps ≡ nextStamps (c .before .before .before .before .before .loop .stamps) (c .before .before .before .before .before .loop .clock) (c .before .before .before .before .before .loop .first) (c .before .before .before .word-at .result)
-kept c = ⊎-elim (λ w. rw (w .0 .taken) (w .2 ∙ w .1 .ensures)) (λ w. rw (w .0 .left) (w .1)) (c .if2 .came)
+  passed : let l = c .before .before .loop in
+      let a = c .before .before .before .before .before .before .args in
+      let ws = wordsOf (now (a .bytes)) in
+      let w = c .word-at .result in
+      wordBreach (a .timing) (l .stamps) (l .clock) (l .first) w ≡ 0
+      → judge (a .timing) ws ≡ run (a .timing) (nextStamps (l .stamps) (l .clock) (l .first) w) (l .clock + 1) (nextFirst (l .first) w) (drop (l .clock + 1) ws)
+  passed e =
+      let l = c .before .before .loop in
+      let a = c .before .before .before .before .before .before .args in
+      rw (l .inv .1, word) (run-passes (a .timing) (l .stamps) (l .first) (wordsOf (now (a .bytes))) (l .clock) inside (rw (← word) e))
+
+early : (c : tie.Then1 Inv-loop μ-loop) → let l = c .before .before .before .before .before .loop in
+    earlyBreach (c .before .before .before .before .before .before .before .before .before .args .timing .refi) (getD (l .stamps .refs) 0 0) (l .clock) (c .before .before .before .word-at .result) ≡ 0
+early c =
+    let l = c .before .before .before .before .before .loop in
+    let w = c .before .before .before .word-at .result in
+    let h = both (eqb (w / 2 ^ 19) 1) (leb (l .clock) (c .before .due .result)) (c .if1 .taken) in
+    let due = c .before .due .ensures (l .clock) (leb-true (l .clock) (c .before .due .result) (h .1)) in
+    early-kept (c .before .before .before .before .before .before .before .before .before .args .timing .refi) (getD (l .stamps .refs) 0 0) (l .clock) w (eqb-true (w / 2 ^ 19) 1 (h .0)) due
 
 never-requires : tie.Need-never-requires Inv-loop μ-loop
 never-requires c κs = search needs
 
+settled-from-requires : tie.Need-settled-from-requires Inv-loop μ-loop
+settled-from-requires c κs = search needs
+
 loop-holds : tie.Need-loop-holds Inv-loop μ-loop
-loop-holds c = (search needs, rw (c .never .ensures) (run-is (c .before .before .args .timing) (wordsOf (now (c .before .before .args .bytes)))))
+loop-holds c =
+    let a = c .before .before .before .args in
+    (search needs, rw (c .before .never .ensures) (run-is (a .timing) (wordsOf (now (a .bytes)))), c .settled-from .ensures)
 
 cast-loop : tie.Need-cast-loop Inv-loop μ-loop
 cast-loop c = search needs
@@ -46,44 +75,115 @@ cast-word-at c = search needs
 word-at-requires : tie.Need-word-at-requires Inv-loop μ-loop
 word-at-requires c κs = search needs
 
-word-breach-requires : tie.Need-word-breach-requires Inv-loop μ-loop
-word-breach-requires c κs = search needs
+cast-bank : tie.Need-cast-bank Inv-loop μ-loop
+cast-bank c = search needs
 
-returns : tie.Need-returns Inv-loop μ-loop
-returns c =
-    let l = c .before .before .before .before .loop in
-    let a = c .before .before .before .before .before .before .before .args in
-    let w = word (c .before .before) in
-    rw
-    (l .inv .1, run-breaches (a .timing) (l .stamps) (l .first) (wordsOf (now (a .bytes))) (l .clock) (inside (c .before .before .before)) (λ e. c .if1 .taken (c .before .word-breach .ensures ∙ (rw w e))), ← w, ← c .before .word-breach .ensures)
+element-copy-out-due : tie.Need-element-copy-out-due Inv-loop μ-loop
+element-copy-out-due c = search needs
 
-remembered-requires : tie.Need-remembered-requires Inv-loop μ-loop
-remembered-requires c κs = search needs
+due-requires : tie.Need-due-requires Inv-loop μ-loop
+due-requires c κs = search needs
+
+cast-if1 : tie.Need-cast-if1 Inv-loop μ-loop
+cast-if1 c = search needs
 
 next-first-requires : tie.Need-next-first-requires Inv-loop μ-loop
 next-first-requires c κs = search needs
 
-add-clock : tie.Need-add-clock Inv-loop μ-loop
-add-clock c = search needs
+add-past-desl : tie.Need-add-past-desl Inv-loop μ-loop
+add-past-desl c = search needs
+
+past-desl-requires : tie.Need-past-desl-requires Inv-loop μ-loop
+past-desl-requires c κs = search needs
 
 loop-less : tie.Need-loop-less Inv-loop μ-loop
 loop-less c = search needs
 
 loop-again : tie.Need-loop-again Inv-loop μ-loop
 loop-again c =
-    let l = c .before .before .before .before .before .before .loop in
-    let a = c .before .before .before .before .before .before .before .before .before .args in
-    let w = word (c .before .before .before .before) in (
+    let l = c .before .before .before .before .before .before .before .before .loop in
+    let t = c .before .before .before .before .before .before .before .before .before .before .before .before .args .timing in
+    let ws = wordsOf (now (c .before .before .before .before .before .before .before .before .before .before .before .before .args .bytes)) in
+    let idle = c .before .before .if2 .taken in
+    let first = c .before .next-first .result in (
       search needs,
-      rw (kept (c .before), c .next-first .ensures, l .inv .1, w)
-          (run-passes (a .timing) (l .stamps) (l .first) (wordsOf (now (a .bytes))) (l .clock) (inside (c .before .before .before .before .before))
-          (rw (← w) (sym (c .before .before .before .word-breach .ensures) ∙ c .before .before .if1 .left))),
+      (rw (c .before .next-first .ensures, idle) (rw idle at (passed (c .before .before .before .before .before .before) (rw (early (c .before .before .before), idle)))))
+          ∙ c .past-desl .ensures .2 (λ k. run t (l .stamps) k first (drop k ws))
+          (λ i h due e q. rw q (desl-passes t (l .stamps) ws i h (c .before .before .before .before .due .ensures i due) e)),
+      l .inv .2,
     )
+
+mul-clear : tie.Need-mul-clear Inv-loop μ-loop
+mul-clear c = search needs
+
+element-copy-out-clear : tie.Need-element-copy-out-clear Inv-loop μ-loop
+element-copy-out-clear c = search needs
+
+clear-requires : tie.Need-clear-requires Inv-loop μ-loop
+clear-requires c κs = search needs
+
+mul-stamps : tie.Need-mul-stamps Inv-loop μ-loop
+mul-stamps c = search needs
+
+element-write-stamps : tie.Need-element-write-stamps Inv-loop μ-loop
+element-write-stamps c = search needs
+
+choose-requires : tie.Need-choose-requires Inv-loop μ-loop
+choose-requires c κs = search needs
+
+choose-requires-2 : tie.Need-choose-requires-2 Inv-loop μ-loop
+choose-requires-2 c κs = search needs
+
+add-clock : tie.Need-add-clock Inv-loop μ-loop
+add-clock c = search needs
+
+loop-less-2 : tie.Need-loop-less-2 Inv-loop μ-loop
+loop-less-2 c = search needs
+
+loop-again-2 : tie.Need-loop-again-2 Inv-loop μ-loop
+loop-again-2 c =
+    let opened = c .before .before .before .before .before .if2 .left in
+    let clear = c .before .before .before .clear .ensures (c .before .before .if3 .taken) in
+    let run-on = passed (c .before .before .before .before .before .before .before .before .before) (rw (early (c .before .before .before .before .before .before), opened, clear .1)) in
+    (search needs, rw (c .before .choose .ensures, c .choose2 .ensures) (rw (opened, clear .0) at run-on), c .before .before .before .before .before .before .before .before .before .before .before .loop .inv .2)
+
+word-breach-requires : tie.Need-word-breach-requires Inv-loop μ-loop
+word-breach-requires c κs = search needs
+
+returns : tie.Need-returns Inv-loop μ-loop
+returns c =
+    let l = c .before .before .before .before .before .before .before .loop in
+    let a = c .before .before .before .before .before .before .before .before .before .before .before .args in
+    let w = word (c .before .before .before .before .before) in
+    rw
+    (l .inv .1, run-breaches (a .timing) (l .stamps) (l .first) (wordsOf (now (a .bytes))) (l .clock) (inside (c .before .before .before .before .before)) (λ e. c .if4 .taken (c .before .word-breach .ensures ∙ (rw w e))), ← w, ← c .before .word-breach .ensures)
+
+after-requires : tie.Need-after-requires Inv-loop μ-loop
+after-requires c κs = search needs
+
+settled-from-requires-2 : tie.Need-settled-from-requires-2 Inv-loop μ-loop
+settled-from-requires-2 c κs = search needs
+
+next-first-requires-2 : tie.Need-next-first-requires-2 Inv-loop μ-loop
+next-first-requires-2 c κs = search needs
+
+add-clock-2 : tie.Need-add-clock-2 Inv-loop μ-loop
+add-clock-2 c = search needs
+
+loop-less-3 : tie.Need-loop-less-3 Inv-loop μ-loop
+loop-less-3 c = search needs
+
+loop-again-3 : tie.Need-loop-again-3 Inv-loop μ-loop
+loop-again-3 c = (
+  search needs,
+  rw (c .before .before .after .ensures, c .next-first2 .ensures) (passed (c .before .before .before .before .before .before .before .before) (sym (c .before .before .before .before .word-breach .ensures) ∙ c .before .before .before .if4 .left)),
+  c .before .settled-from2 .ensures,
+)
 
 returns-2 : tie.Need-returns-2 Inv-loop μ-loop
 returns-2 c =
     let l = c .before .loop in
-    let a = c .before .before .before .before .args in
+    let a = c .before .before .before .before .before .args in
     rw
     (l .inv .1, run-ends (a .timing) (l .stamps) (l .first) (wordsOf (now (a .bytes))) (l .clock) (rw (words-length (now (a .bytes))) (c .loop-test .left)))
 
@@ -94,15 +194,36 @@ judged-bytes-spec =
     Inv-loop
     μ-loop
     never-requires
+    settled-from-requires
     loop-holds
     cast-loop
     cast-word-at
     word-at-requires
-    word-breach-requires
-    returns
-    remembered-requires
+    cast-bank
+    element-copy-out-due
+    due-requires
+    cast-if1
     next-first-requires
-    add-clock
+    add-past-desl
+    past-desl-requires
     loop-less
     loop-again
+    mul-clear
+    element-copy-out-clear
+    clear-requires
+    mul-stamps
+    element-write-stamps
+    choose-requires
+    choose-requires-2
+    add-clock
+    loop-less-2
+    loop-again-2
+    word-breach-requires
+    returns
+    after-requires
+    settled-from-requires-2
+    next-first-requires-2
+    add-clock-2
+    loop-less-3
+    loop-again-3
     returns-2)
