@@ -2,8 +2,10 @@
 use command::Request;
 use controller::CallAnswer;
 use controller::Controller;
+use controller::Offered;
+use controller::Ticked;
 ghost use mathlib.Core.Path.{_≡_};
-ghost use Rattle.controller.specs.Steps.{callOutcome, offerOf, tickOf};
+ghost use Rattle.controller.specs.Steps.{callOutcome, offered, offerOf, ticked, tickOf};
 
 // A refused tick gives word 0.
 pub struct Given {
@@ -27,5 +29,24 @@ pub fn tick(controller: &mut Controller) -> Given
     Given {
         answer: ticked.answer,
         word: ticked.word,
+    }
+}
+
+// The same calls on a controller that is passed by value and lent for the call, for callers that lend none.
+pub fn offer_through(mut controller: Controller, request: Request) -> Offered
+    ensures { λ r. ⌜ offered r ≡ offerOf controller request ⌝ }
+{
+    let answer = offer(&mut controller, request);
+    Offered { answer, controller }
+}
+
+pub fn tick_through(mut controller: Controller) -> Ticked
+    ensures { λ r. ⌜ ticked r ≡ tickOf controller ⌝ }
+{
+    let given = tick(&mut controller);
+    Ticked {
+        answer: given.answer,
+        word: given.word,
+        controller,
     }
 }
