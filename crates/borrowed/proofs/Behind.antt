@@ -2,7 +2,8 @@
 -- copy, and the struct that it hands back is stored.
 --     opened    the `&mut` is opened: the machine value that lies there is written out, and its relation is in hand
 --     closed    it is closed at another value, whose machine value lies there
---     told      a call has returned a struct of plain data: its value, the fact that the callee's `ensures` states of it, and its relation
+--     read      a call has returned a struct of plain data, whose relation is in hand: its machine value is written out
+--     told      the same from what a call hands back: its value, the fact that the callee's `ensures` states of it, and its relation
 --     typed     the machine value has the struct's MIR type
 --     reached   a walk, which uses no `requires`, is taken to the function's theorem
 -- Assumes nothing.
@@ -64,6 +65,11 @@ module _ {M : Type 1} {𝓤 : URA M} {H : Heap 𝓤} {A : Atoms 𝓤} {K : Type 
         closes t z (row T) h (LL.vals T L h) b o $ feqI t (List Val) (vptr b o ∷ []) (vptr b o ∷ []) refl $ fjoin3 t $ s)
 
   module _ {C : Calls 𝓤 H} {Λ : Loops 𝓤 H} {E : Env 𝓤 H} {d : Place} {rest : Code} {p : Post 𝓤 H} where
+    pub read : K → (v : Val) (T : Declared) (L : LL.Laws T) (r : T .D) → Is (row T) r (v ∷ [])
+        → (Is (row T) r (LL.vals T L r) → Seq K W Γ (lands C Λ E d (LL.val T L r) rest p)) → Seq K W Γ (lands C Λ E d v rest p)
+    read t v T L r is k =
+        regoal t (λ (u : Val). lands C Λ E d u rest p) (ap only (LL.tells T L r (v ∷ []) is)) refl $ k (subst (Is (row T) r) (LL.tells T L r (v ∷ []) is) is)
+
     pub told : K → (v : Val) (T : Declared) (L : LL.Laws T) (X : Type 0) (P : X → SProp 𝓤) (φ : T .D → Type 0)
         → ((r : T .D) → φ r → Is (row T) r (LL.vals T L r) → Seq K W Γ (lands C Λ E d (LL.val T L r) rest p))
         → Seq K W
@@ -72,9 +78,7 @@ module _ {M : Type 1} {𝓤 : URA M} {H : Heap 𝓤} {A : Atoms 𝓤} {K : Type 
     told t v T L X P φ k =
         use1 W (later (some (λ (r : T .D). (‵ ftrue ⊛ ‵ (row T .own r (v ∷ []))) ⊛ some (λ (x : X). raw (P x) ⊛ raw (fact 𝓤 (φ r)))))) (id⊢ 𝓤 _) $
         await t tt $ pick t (λ r. split t $ move t (1 ∷ []) $ pick t (λ x. split t $ drop t $ heard t (φ r) (λ e.
-        split t $ drop t $ peeks t (row T) (Is (row T)) (shows 𝓤 H A (row T)) r (v ∷ []) (λ is. drop t $
-        regoal t (λ (u : Val). lands C Λ E d u rest p) (ap only (LL.tells T L r (v ∷ []) is)) refl $
-        k r e (subst (Is (row T) r) (LL.tells T L r (v ∷ []) is) is)))))
+        split t $ drop t $ peeks t (row T) (Is (row T)) (shows 𝓤 H A (row T)) r (v ∷ []) (λ is. drop t $ read t v T L r is (k r e)))))
 
 pub typed : {M : Type 1} {𝓤 : URA M} {H : Heap 𝓤} {A : Atoms 𝓤} (W : Given 𝓤 H A) (T : Declared) (L : LL.Laws T) (x : T .D)
     → Is (row T) x (LL.vals T L x) → Holds (hasTy (lone (row T .mir)) (LL.val T L x)) × WT (LL.val T L x)

@@ -7,6 +7,7 @@ use Rattle.config.specs.Outcome.{value}
 use Rattle.config.specs.Sheet.{timingOf}
 use Rattle.config.specs.declared.Config.{Config}
 use Rattle.config.specs.declared.Timing.{Timing}
+use Rattle.command.specs.declared.operation.Request.{Request}
 use Rattle.controller.specs.States.{fresh}
 use Rattle.controller.specs.Steps.{held, callOutcome, offered, ticked, offerOf, tickOf}
 use Rattle.model.specs.Runs.{Call, offer, tick, Accepted, Run, ifAccepted}
@@ -26,12 +27,19 @@ pub record Made : Type 0 where
   pub word : ℕ
   pub after : Controller
 
+-- what the contracts of the calls on a borrowed controller say: s stands behind the borrow before the call, and after it `after`
+abbrev pub OfferPromised : Controller → Request → CallAnswer → Controller → Type 0
+OfferPromised s q answer after = record { outcome = callOutcome answer; after = after } ≡ offerOf s q
+
+abbrev pub TickPromised : Controller → CallAnswer → ℕ → Controller → Type 0
+TickPromised s answer word after = record { outcome = callOutcome answer; word = word; after = after } ≡ tickOf s
+
 -- what the contract of its form says of a call on a controller s
 abbrev pub Promised : Form → Controller → Call → CallAnswer → ℕ → Controller → Type 0
 Promised byValue s (offer q) answer word after = offered (record { answer = answer; controller = after }) ≡ offerOf s q
 Promised byValue s tick answer word after = ticked (record { answer = answer; word = word; controller = after }) ≡ tickOf s
-Promised borrowed s (offer q) answer word after = record { outcome = callOutcome answer; after = after } ≡ offerOf s q
-Promised borrowed s tick answer word after = record { outcome = callOutcome answer; word = word; after = after } ≡ tickOf s
+Promised borrowed s (offer q) answer word after = OfferPromised s q answer after
+Promised borrowed s tick answer word after = TickPromised s answer word after
 
 -- "Each call gets the controller that the last one handed back", or left behind the borrow.
 abbrev pub MadeFrom : Controller → List Made → Type 0

@@ -99,11 +99,12 @@ pub fn advance<'s, 'a>(cursor: &'s mut TraceCursor<'a>) -> Progress
     moved.progress
 }
 
-// The first advance of a fresh walk. Whoever calls this, and goes on with `next_word`, needs no walk.
-pub fn first_word(words: &[u32], config: Config) -> Moved
-    ensures { λ r. ⌜ moved r ≡ moveOf (fresh config) (now (words .entry)) ⌝ }
+// One advance of a walk over the words that has reached this checker, for callers that hold no cursor.
+pub fn advance_through(words: &[u32], reached: Checker) -> Moved
+    ensures { λ r. ⌜ moved r ≡ moveOf reached (now (words .entry)) ⌝ }
 {
-    let mut cursor = new(words, config);
+    let mut cursor = new(words, reached.config);
+    cursor.checker = reached;
     let progress = advance(&mut cursor);
     Moved {
         progress,

@@ -4,4 +4,6 @@ pub mod cursor;
 
 pub use calls::Given;
 pub use calls::offer;
+pub use calls::offer_through;
 pub use calls::tick;
+pub use calls::tick_through;
