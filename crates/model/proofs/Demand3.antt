@@ -18,15 +18,14 @@ use Rattle.command.specs.Writing.{requestFits}
 use Rattle.command.specs.declared.operation.Request.{Request}
 use Rattle.model.specs.Laid as laid
 use Rattle.controller.specs.States.{vacant, fresh}
-use Rattle.controller.specs.Steps.{held, ofOldest, joined, notOffered, offerOf, tickOf}
+use Rattle.controller.specs.Steps.{held, joined, notOffered, offerOf, tickOf}
 use Rattle.model.specs.Runs.{Call, offer, tick, Accepted, Run, called, runFrom, run, Key, lay, pairsOf, requestsOf, firstWords, latestStart}
 use Rattle.model.specs.Demand3.{Holds, Demand3}
 use Rattle.controller.specs.declared.Controller.{Controller}
 use Rattle.controller.specs.declared.OpenPair.the-variants.{Nothing}
 use Rattle.model.proofs.Figures.{Figures, figures}
 use Rattle.model.proofs.Fulfilled.{Met, met-at}
-use Rattle.model.proofs.Going.{accessOpen, firstsOf, start-goes, none-passed}
-use Rattle.model.proofs.Image.{oldest-in, front}
+use Rattle.model.proofs.Going.{firstsOf, start-goes, none-passed}
 use Rattle.model.proofs.Represents.{offer-is, tick-represents, tick-ends}
 use Rattle.model.proofs.Runs.{closingBound, Kept, all-kept}
 
@@ -53,16 +52,14 @@ module _ (c : Config) (t : Timing) (is : timingOf c ≡ value t) (f : Figures t)
     pairs-are : pairsOf (r .words) ≡ k .course .past .pairs
     pairs-are = ap pairsOf (h .words) ∙ sym (ap (λ p. p .pairs) (h .past))
 
-    firsts-are : firstWords r ≡ firstsOf (k .course)
+    firsts-are : firstWords (r .words) (k .course .opened) ≡ firstsOf (k .course)
     firsts-are =
-        let p = h .represents .opened in
-        let opened = ap (λ s. s .opened) (h .represents .state) in
-        let kind : ofOldest (r .controller .opened) ≡ accessOpen (k .course .opened) = ap ofOldest opened ∙ oldest-in p (front (k .course .waiting)) ∙ ap accessOpen (h .represents .operation) in
         let at : length (r .words) ≡ k .course .past .clock = ap length (h .words) ∙ sym (h .clock) in
-        rw (pairs-are, kind, at)
+        rw (pairs-are, at)
 
     prompt : (older newer : List Accepted) (a : Accepted) → r .accepted ≡ older ++ a ∷ newer → latestStart t a < length (r .words)
-        → (length older < length (firstWords r)) × (getD (firstWords r) (length older) 0 ≤ latestStart t a)
+        → let firsts = firstWords (r .words) (k .course .opened) in
+        (length older < length firsts) × (getD firsts (length older) 0 ≤ latestStart t a)
     prompt older newer a e late =
         let x = k .course in
         let at = h .clock in
@@ -101,22 +98,23 @@ module _ (c : Config) (t : Timing) (is : timingOf c ≡ value t) (f : Figures t)
             let over = ltb-false (length (k .words)) 16777216 e in
             ap (λ y. y .outcome) (tick-ends c t is f (r .controller) (k .course) (h .bounds) (h .represents) (h .going) (omega arith))
 
-    pub from-kept : (calls : List Call) → k ≡ lay t calls → Holds t calls r
-    from-kept calls e =
-        record {
-          laid-down = h .words ∙ ap (λ k. k .words) e;
-          sound = rw (h .words) (h .sound);
-          in-order = ap₂ (λ ps rs. requestsOf t ps ++ rs) pairs-are is-held ∙ h .order;
-          prompt = prompt;
-          offer-refused = offer-refused;
-          tick-refused = tick-refused;
-        }
+  from-kept : (calls : List Call) (r : Run) → Kept c t is f r (lay t calls) → Holds t calls r
+  from-kept calls r h =
+      let k = lay t calls in
+      record {
+        laid-down = h .words;
+        sound = rw (h .words) (h .sound);
+        in-order = ap₂ (λ ps rs. requestsOf t ps ++ rs) (pairs-are r k h) (is-held r k h) ∙ h .order;
+        prompt = prompt r k h;
+        offer-refused = offer-refused r k h;
+        tick-refused = tick-refused r k h;
+      }
 
 holds : (c : Config) (t : Timing) → timingOf c ≡ value t → (calls : List Call) → Holds t calls (run c calls)
 holds c t is calls =
     let a = accepted c t is in
     let f = subst Figures (a .1) (figures c (a .0)) in
-    from-kept c t is f (run c calls) (lay t calls) (all-kept c t is f _ _ calls (start-kept c t is f)) calls refl
+    from-kept c t is f calls (run c calls) (all-kept c t is f _ _ calls (start-kept c t is f))
 
 -- a controller on a refused configuration stays as it is
 refused-stays : (n : ℕ) (r : Run) (calls : List Call) → timingOf (r .controller .config) ≡ refused n → runFrom r calls .controller ≡ r .controller

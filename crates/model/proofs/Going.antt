@@ -24,12 +24,12 @@ use Rattle.rules.proofs.Newest.{Ordered}
 use Rattle.rules.proofs.Summary.{summary}
 use Rattle.rules.proofs.Words.{ordered-mono, breach-is}
 use Rattle.model.specs.Laid.{Course, start, candidate, breachless, opening, firstWord, leave, giving, Advance, tick, offered}
-use Rattle.model.specs.Runs.{requestOf, requestsOf, starts}
+use Rattle.model.specs.Runs.{requestOf, requestsOf, starts, isAccess, accessOpen}
 use Rattle.model.proofs.Figures.{Figures}
 use Rattle.model.proofs.Candidates.{Due, candidate-due, fits-open}
 use Rattle.model.proofs.Spacings.{InTime, not-overdue}
 use Rattle.model.proofs.InTime.{lastRef, next-in-time}
-use Rattle.model.proofs.Turn.{pairAt, idle, isAccess, closes-with-lal}
+use Rattle.model.proofs.Turn.{pairAt, idle, closes-with-lal}
 use Rattle.model.proofs.Phases.{Phase, Next, begin, after-extended, after-regular, after-refresh, settled, phase-turn}
 use Rattle.model.proofs.Soonest.{soonest, soonest-pace}
 use Rattle.model.proofs.Punctual.{Punctual}
@@ -51,10 +51,6 @@ opening-due t rs p (some o) h = by (breachless t p (pairOf t o)) refl
     by false e = (tt, tt)
 
 -- the first word of an open read or write, at a clock where it is open
-abbrev pub accessOpen : Option Operation → Bool
-accessOpen none = false
-accessOpen (some o) = isAccess o
-
 abbrev pub openStart : Option Operation → ℕ → List ℕ
 openStart x k = cond (accessOpen x) ((k - 1) ∷ []) []
 

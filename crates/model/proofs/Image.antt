@@ -33,7 +33,7 @@ use Rattle.model.proofs.Figures.{Figures}
 use Rattle.model.proofs.Candidates.{Due, fits-open}
 use Rattle.model.proofs.InTime.{lastRef}
 use Rattle.model.proofs.Turn.{idle}
-use Rattle.model.proofs.Going.{accessOpen}
+use Rattle.model.specs.Runs.{accessOpen}
 
 -- what an open pair stands for
 abbrev pub operationIn : OpenPair → Request → Option Operation

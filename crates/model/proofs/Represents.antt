@@ -27,14 +27,14 @@ use Rattle.model.specs.Laid.{Course}
 use Rattle.model.specs.Laid as laid
 use Rattle.controller.specs.States.{vacant}
 use Rattle.controller.specs.Steps.{Offer, allFit, wordsOf, ofOldest, stateFits, joined, notOffered, offerOf, nextPair, passes, notTicked, tickOf}
-use Rattle.model.specs.Runs.{requestOf}
+use Rattle.model.specs.Runs.{requestOf, isAccess, accessOpen}
 use Rattle.controller.specs.declared.Controller.{Controller}
 use Rattle.controller.specs.declared.OpenPair.{OpenPair}
 use Rattle.controller.specs.declared.OpenPair.the-variants.{Nothing, Extended, Regular, Refresh, Oldest}
 use Rattle.model.proofs.Figures.{Figures}
 use Rattle.model.proofs.Candidates.{AllFit, Due, candidate-due}
-use Rattle.model.proofs.Turn.{idle, isAccess}
-use Rattle.model.proofs.Going.{opening-due, accessOpen, leave-front, inPair, atRest, Going, between, within}
+use Rattle.model.proofs.Turn.{idle}
+use Rattle.model.proofs.Going.{opening-due, leave-front, inPair, atRest, Going, between, within}
 use Rattle.model.proofs.Image.{operationIn, pairIn, isSome, words-in, open-in, oldest-in, first-in, front, front-of, image, next-is, opens-is}
 
 all-fit : (t : Timing) (rs : List Request) → AllFit t rs → allFit t rs ≡ true

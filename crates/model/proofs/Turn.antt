@@ -14,13 +14,14 @@ use Rattle.command.specs.Reading.{rda, lal, modeBy, accessOf, operationOf}
 use Rattle.command.specs.Writing.{pairOf, operationFits}
 use Rattle.command.specs.declared.operation.Request.{Request}
 use Rattle.command.specs.declared.operation.Operation.{Operation}
-use Rattle.command.specs.declared.operation.Operation.the-variants.{Access, Regular, Extended, Refresh}
+use Rattle.command.specs.declared.operation.Operation.the-variants.{Access, Refresh}
 use Rattle.roundtrip.proofs.WrittenBack.{written-back}
 use Rattle.rules.specs.History.{ClosedPair, Past}
 use Rattle.rules.specs.Rules.{wasRead, wasWrite}
 use Rattle.rules.proofs.Newest.{Ordered, latest}
 use Rattle.rules.proofs.Summary.{summary}
 use Rattle.rules.proofs.Words.{ordered-mono, breach-is}
+use Rattle.model.specs.Runs.{isAccess}
 use Rattle.model.specs.Laid.{startUp, refreshDue, oldestOf, candidate, breachless, opening}
 use Rattle.model.proofs.Figures.{Figures}
 use Rattle.model.proofs.Candidates.{AllFit}
@@ -41,12 +42,6 @@ refresh-opens t ps k o now next free =
     let before = ordered-mono k (k + 1 - 1) (omega arith) ps o in
     rw
     (breach-is t none k ps 0x80000 o, breach-is t (some 0x80000) (k + 1) ps 0x80000 (omega arith, before, refl), refresh-first t (summary ps) k now, refresh-closes t (summary ps) (k + 1) next free)
-
-abbrev pub isAccess : Operation → Bool
-isAccess (Access r) = true
-isAccess (Regular a3) = false
-isAccess (Extended v) = false
-isAccess Refresh = false
 
 -- a pair that reads as an access has LAL, and no other
 access-lal : (t : Timing) (f s : ℕ) → lal s ≡ isAccess (operationOf t f s)

@@ -27,7 +27,8 @@ pub record Holds (t : Timing) (calls : List Call) (r : Run) : Type 0 where
   -- "A request accepted at clock c with q waiting has its first word no later than clock max(c, 201) + (q + 1) × S + RC + REFC, if ticks
   -- were granted that far". "Ticks were granted as far as a clock when the word at that clock is among those given."
   pub prompt : (older newer : List Accepted) (a : Accepted) → r .accepted ≡ older ++ a ∷ newer → latestStart t a < length (r .words)
-      → (length older < length (firstWords r)) × (getD (firstWords r) (length older) 0 ≤ latestStart t a)
+      → let firsts = firstWords (r .words) (lay t calls .course .opened) in
+      (length older < length firsts) × (getD firsts (length older) 0 ≤ latestStart t a)
   -- "an offer is refused exactly for 26 or 27", whatever is offered next
   pub offer-refused : (q : Request) → offerOf (r .controller) q .outcome ≡ require (requestFits t q) 26 (require (ltb (length (held (r .controller))) 16) 27 (value tt))
   -- "a tick exactly for 24", which is the next tick's

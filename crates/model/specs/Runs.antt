@@ -1,7 +1,8 @@
 -- Lists of calls: what a controller comes to, and what the paper lays down for the same calls.
 use Prim.Native.Nat.{ℕ, _+_, _*_, _-_, max}
-use mathlib.Core.Bool.{cond, _&&_}
+use mathlib.Core.Bool.{Bool, true, false, cond, _&&_}
 use mathlib.Core.List.{List, [], _∷_, _++_}
+use mathlib.Core.Option.{Option, none, some}
 use lib.ListN.{length}
 use lib.Dec.{ltb}
 use Rattle.config.specs.Outcome.{Outcome, value, refused}
@@ -12,11 +13,11 @@ use Rattle.command.specs.Writing.{requestFits}
 use Rattle.command.specs.declared.operation.Request.{Request}
 use Rattle.command.specs.declared.operation.Operation.{Operation}
 use Rattle.command.specs.declared.operation.Operation.the-variants.{Access, Regular, Extended, Refresh}
-use Rattle.rules.specs.History.{ClosedPair, Past, nothing, extend, pastFrom}
+use Rattle.rules.specs.History.{ClosedPair, nothing, pastFrom}
 use Rattle.rules.specs.Rules.{wasAccess}
 use Rattle.model.specs.Laid as laid
 use Rattle.controller.specs.States.{fresh}
-use Rattle.controller.specs.Steps.{held, ofOldest, offerOf, tickOf}
+use Rattle.controller.specs.Steps.{held, offerOf, tickOf}
 use Rattle.controller.specs.declared.Controller.{Controller}
 
 pub data Call : Type 0 where
@@ -96,9 +97,19 @@ abbrev pub starts : List ClosedPair → List ℕ
 starts [] = []
 starts (p ∷ ps) = starts ps ++ cond (wasAccess p) (p .start ∷ []) []
 
+abbrev pub isAccess : Operation → Bool
+isAccess (Access r) = true
+isAccess (Regular a3) = false
+isAccess (Extended v) = false
+isAccess Refresh = false
+
+abbrev pub accessOpen : Option Operation → Bool
+accessOpen none = false
+accessOpen (some o) = isAccess o
+
 -- "a pair that tick opened for the oldest waiting request and that is still open at the list's end counts as that request's"
-abbrev pub firstWords : Run → List ℕ
-firstWords r = starts (pairsOf (r .words)) ++ cond (ofOldest (r .controller .opened)) ((length (r .words) - 1) ∷ []) []
+abbrev pub firstWords : List ℕ → Option Operation → List ℕ
+firstWords words opened = starts (pairsOf words) ++ cond (accessOpen opened) ((length words - 1) ∷ []) []
 
 -- "max(c, 201) + (q + 1) × S + RC + REFC"
 abbrev pub latestStart : Timing → Accepted → ℕ
