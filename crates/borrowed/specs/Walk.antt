@@ -7,7 +7,7 @@ use lib.ListN.{length, getD}
 use lib.Dec.{eqb, ltb}
 use Rattle.config.specs.Outcome.{Outcome, value, refused}
 use Rattle.config.specs.Numbers.{refusalNumber}
-use Rattle.config.specs.Sheet.{timingOf}
+use Rattle.config.specs.Configuration.{timingOf}
 use Rattle.config.specs.declared.Config.{Config}
 use Rattle.config.specs.declared.Timing.{Timing}
 use Rattle.rules.specs.Verdict.{Judgement, accepted, breach, judge}

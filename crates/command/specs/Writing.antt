@@ -3,7 +3,7 @@ use Prim.Native.Nat.{ℕ, _+_, _/_, _^_}
 use mathlib.Core.Bool.{Bool, true, false, cond, not, _&&_, _||_}
 use lib.Dec.{eqb, leb}
 use Rattle.config.specs.Outcome.{Outcome, value, require, given}
-use Rattle.config.specs.Sheet.{timingOf}
+use Rattle.config.specs.Configuration.{timingOf}
 use Rattle.config.specs.declared.Config.{Config}
 use Rattle.config.specs.declared.Timing.{Timing}
 use Rattle.command.specs.Pins.{put, drive}

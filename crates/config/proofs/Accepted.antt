@@ -3,7 +3,7 @@ use mathlib.Core.Path.{_≡_, sym, ap, subst}
 use mathlib.Core.Bool.{Bool, true, false}
 use native.Mathlib.Omega.{arith}
 use Rattle.config.specs.Outcome.{Outcome, value, refused, require, given}
-use Rattle.config.specs.Sheet.{partFits, periodFits, countsFit, derived, timingOf}
+use Rattle.config.specs.Configuration.{partFits, periodFits, countsFit, derived, timingOf}
 use Rattle.config.specs.declared.Config.{Config}
 use Rattle.config.specs.declared.Timing.{Timing}
 use Rattle.config.proofs.Outcomes.{refused-value, refused-by, require-value, given-value}

@@ -10,7 +10,7 @@ use borrow.Author.Tests.{leb-true, eqb-true}
 use lib.Dec.{leb, eqb, lit<, lit≤}
 use lib.ListN.{getD}
 use native.Mathlib.Nat.{le-trans}
-use Rattle.config.specs.Sheet.{oneOf, within, partFits, countsFit, leastPeriods, leastPeriod, periodFits}
+use Rattle.config.specs.Configuration.{oneOf, within, partFits, countsFit, leastPeriods, leastPeriod, periodFits}
 use Rattle.config.specs.declared.Config.{Config}
 
 -- both tests of a conjunction that holds

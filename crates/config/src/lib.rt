@@ -5,7 +5,7 @@ pub use refusal::Refusal;
 ghost use mathlib.Core.Path.{_≡_};
 ghost use mathlib.Core.Bool.{cond};
 ghost use Prim.Native.Nat.{_≤_, _<_, max};
-ghost use Rattle.config.specs.Sheet.{leastPeriod, partFits, periodFits, countsFit, derived, timingOf, institute};
+ghost use Rattle.config.specs.Configuration.{leastPeriod, partFits, periodFits, countsFit, derived, timingOf, institute};
 ghost use Rattle.config.specs.Numbers.{timingOutcome};
 
 // A time in whole picoseconds. A period and a count of clocks are never taken for one another.

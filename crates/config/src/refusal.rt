@@ -3,7 +3,7 @@ ghost use mathlib.Core.Path.{_≡_};
 ghost use Rattle.config.specs.Numbers.{refusalNumber};
 
 pub enum Refusal {
-    // The state is not one that calls make: 19.
+    // The state has one of the paper's five faults, which no call gives it: 19.
     State,
     // Grade, CL, BL or organisation: 20.
     Part,

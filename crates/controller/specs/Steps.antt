@@ -6,7 +6,7 @@ use lib.ListN.{getD, set, take, drop}
 use lib.Dec.{eqb, leb, ltb}
 use Rattle.config.specs.Outcome.{Outcome, value, refused}
 use Rattle.config.specs.Numbers.{refusalNumber}
-use Rattle.config.specs.Sheet.{timingOf}
+use Rattle.config.specs.Configuration.{timingOf}
 use Rattle.config.specs.declared.Timing.{Timing}
 use Rattle.command.specs.Writing.{pairOf, requestFits}
 use Rattle.command.specs.declared.operation.Request.{Request}

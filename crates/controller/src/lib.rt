@@ -34,7 +34,7 @@ pub struct Controller {
     pub clock: u32,
     pub opened: OpenPair,
     pub stamps: Timestamps,
-    // Oldest first; every place past the count is vacant.
+    // Oldest first; calls keep every place past the count vacant.
     pub waiting: [Request; 16],
     pub count: u32,
 }

@@ -1,4 +1,4 @@
-// Whether calls can have made a state; one that they cannot is refused by 19.
+// The grounds on which a state is refused by 19.
 use crate::Controller;
 use crate::OpenPair;
 use command::Request;

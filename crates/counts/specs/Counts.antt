@@ -44,14 +44,14 @@ abbrev pub zero : CommandCounts
 zero = record { reads = 0; writes = 0; modes = 0; refreshes = 0; desls = 0 }
 
 -- an answer in the paper's terms: 0 or the refusal's number, and the counts
-pub record Tally : Type 0 where
+pub record Counting : Type 0 where
   pub number : ℕ
   pub counts : CommandCounts
 
-abbrev pub tallyOutcome : CountsAnswer → Tally
-tallyOutcome (Counted c) = record { number = 0; counts = c }
-tallyOutcome (Refused r c) = record { number = refusalNumber r; counts = c }
+abbrev pub countingOutcome : CountsAnswer → Counting
+countingOutcome (Counted c) = record { number = 0; counts = c }
+countingOutcome (Refused r c) = record { number = refusalNumber r; counts = c }
 
 -- "Tally: 30 too long, all counts 0."
-abbrev pub tallyOf : List ℕ → Tally
-tallyOf words = cond (leb (length words) 65536) (record { number = 0; counts = countsOf words }) (record { number = 30; counts = zero })
+abbrev pub countingOf : List ℕ → Counting
+countingOf words = cond (leb (length words) 65536) (record { number = 0; counts = countsOf words }) (record { number = 30; counts = zero })

@@ -8,7 +8,7 @@ use rules::next_first;
 ghost use mathlib.Core.Path.{_≡_};
 ghost use Prim.Native.Nat.{_+_, _≤_, _<_};
 ghost use lib.ListN.{length};
-ghost use Rattle.counts.specs.Counts.{countsOf, tallyOutcome, tallyOf};
+ghost use Rattle.counts.specs.Counts.{countsOf, countingOutcome, countingOf};
 ghost use Rattle.counts.specs.Turn.{counted, Below};
 
 // Closed pairs of each of the four kinds, and DESL words.
@@ -69,7 +69,7 @@ fn counts_of(words: &[u32]) -> CommandCounts
 
 // Counts the commands of at most 65,536 words; more refuse 30.
 pub fn count_commands(words: &[u32]) -> CountsAnswer
-    ensures { λ r. ⌜ tallyOutcome r ≡ tallyOf (now (words .entry)) ⌝ }
+    ensures { λ r. ⌜ countingOutcome r ≡ countingOf (now (words .entry)) ⌝ }
 {
     if words.len() <= 65536 {
         CountsAnswer::Counted(counts_of(words))

@@ -9,7 +9,7 @@ use borrow.Author.Tests.{leb-true}
 use lib.ListN.{length}
 use lib.Dec.{eqb, leb}
 use Rattle.config.specs.Outcome.{Outcome, value, refused, require, given}
-use Rattle.config.specs.Sheet.{timingOf}
+use Rattle.config.specs.Configuration.{timingOf}
 use Rattle.config.specs.declared.Config.{Config}
 use Rattle.config.specs.declared.Timing.{Timing}
 use Rattle.words.specs.Words.{wordsOf}
@@ -18,7 +18,7 @@ use Rattle.rules.specs.History.{Past, nothing, extend}
 use Rattle.rules.specs.Rules.{lowest, rules, breachAt}
 use Rattle.rules.specs.Verdict.{Judgement, lead, judgeFrom, judge, checkBytesOf}
 use Rattle.rules.proofs.Words.{clock-is}
-use Rattle.fcram.specs.Number.{Small}
+use Rattle.fcram.specs.Range.{Small}
 
 lowest-bound : (n : ℕ) (bs : List Bool) → lowest n bs ≤ n + length bs
 lowest-bound n [] = omega arith

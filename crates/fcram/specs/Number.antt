@@ -1,5 +1,5 @@
 -- "It gets one number: 0 for accepted, the refusal number, or the clock times 64 plus the breach number."
-use Prim.Native.Nat.{ℕ, _+_, _*_, _<_}
+use Prim.Native.Nat.{ℕ, _+_, _*_}
 use Rattle.config.specs.Outcome.{Outcome, value, refused}
 use Rattle.config.specs.declared.Config.{Config}
 use Rattle.rules.specs.Verdict.{Judgement, accepted, breach}
@@ -9,9 +9,9 @@ numberOf (value accepted) = 0
 numberOf (value (breach clock n)) = clock * 64 + n
 numberOf (refused n) = n
 
--- the sheet's numbers, in their order
-abbrev pub sheet : ℕ → ℕ → ℕ → ℕ → ℕ → ℕ → ℕ → ℕ → ℕ → ℕ → Config
-sheet grade cl bl organisation period rbd rwd wrd rsc refc =
+-- the configuration that the numbers make, in the order of the paper
+abbrev pub configOf : ℕ → ℕ → ℕ → ℕ → ℕ → ℕ → ℕ → ℕ → ℕ → ℕ → Config
+configOf grade cl bl organisation period rbd rwd wrd rsc refc =
     record {
       grade = grade;
       cl = cl;
@@ -24,9 +24,3 @@ sheet grade cl bl organisation period rbd rwd wrd rsc refc =
       rsc = record { 0 = rsc };
       refc = record { 0 = refc };
     }
-
--- what keeps that number within 32 bits
-abbrev pub Small : Outcome Judgement → Type 0
-Small (value accepted) = Unit {0}
-Small (value (breach clock n)) = (clock < 16777216) × (n < 64)
-Small (refused n) = Unit {0}

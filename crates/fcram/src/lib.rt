@@ -7,7 +7,8 @@ ghost use mathlib.Core.Path.{_≡_};
 ghost use Prim.Native.Nat.{_≤_};
 ghost use Rattle.rules.specs.Verdict.{checkBytesOf};
 ghost use Rattle.protocol.specs.Steps.{verdictOutcome};
-ghost use Rattle.fcram.specs.Number.{Small, numberOf, sheet};
+ghost use Rattle.fcram.specs.Number.{numberOf, configOf};
+ghost use Rattle.fcram.specs.Range.{Small};
 
 // A verdict as one number: 0 for accepted, the refusal's number, or the clock times 64 plus the breach number.
 fn number(verdict: Verdict) -> u32
@@ -21,7 +22,7 @@ fn number(verdict: Verdict) -> u32
     }
 }
 
-// Checks a trace of little-endian words on the sheet that the ten numbers make.
+// Checks a trace of little-endian words on the configuration that the ten numbers make.
 #[no_mangle]
 pub extern "C" fn fcram_check(
     grade: u32,
@@ -36,7 +37,7 @@ pub extern "C" fn fcram_check(
     refc: u32,
     trace: &[u8],
 ) -> u32
-    ensures { λ r. ⌜ r ≡ numberOf (checkBytesOf (sheet grade cl bl organisation period rbd rwd wrd rsc refc) (now (trace .entry))) ⌝ }
+    ensures { λ r. ⌜ r ≡ numberOf (checkBytesOf (configOf grade cl bl organisation period rbd rwd wrd rsc refc) (now (trace .entry))) ⌝ }
 {
     let config = Config {
         grade,

@@ -5,7 +5,7 @@ use mathlib.Core.List.{List}
 use borrow.Author.Tests.{le-leb}
 use lib.ListN.{length}
 use Rattle.config.specs.Outcome.{Outcome}
-use Rattle.config.specs.Sheet.{institute}
+use Rattle.config.specs.Configuration.{institute}
 use Rattle.config.specs.declared.Config.{Config}
 use Rattle.rules.specs.Verdict.{Judgement, checkBytesOf}
 use Rattle.marker.specs.Mark.{markOf, lineBy, lineOf}

@@ -9,7 +9,7 @@ use lib.ListN.{length, getD, replicate}
 use lib.Seq.{take-append-seam}
 use lib.Dec.{ltb}
 use Rattle.config.specs.Outcome.{Outcome, value, refused, require}
-use Rattle.config.specs.Sheet.{timingOf}
+use Rattle.config.specs.Configuration.{timingOf}
 use Rattle.config.specs.declared.Config.{Config}
 use Rattle.config.specs.declared.Timing.{Timing}
 use Rattle.config.proofs.Outcomes.{refused-value, same-number, refused-by}
@@ -19,7 +19,7 @@ use Rattle.command.specs.declared.operation.Request.{Request}
 use Rattle.model.specs.Laid as laid
 use Rattle.controller.specs.States.{vacant, fresh}
 use Rattle.controller.specs.Steps.{held, joined, notOffered, offerOf, tickOf}
-use Rattle.model.specs.Runs.{Call, offer, tick, Accepted, Run, called, runFrom, run, Key, lay, pairsOf, requestsOf, firstWords, latestStart}
+use Rattle.model.specs.Runs.{Call, offer, tick, Accepted, Run, called, runFrom, run, Prescribed, prescribed, pairsOf, requestsOf, firstWords, latestStart}
 use Rattle.model.specs.Demand3.{Holds, Demand3}
 use Rattle.controller.specs.declared.Controller.{Controller}
 use Rattle.controller.specs.declared.OpenPair.the-variants.{Nothing}
@@ -45,7 +45,7 @@ module _ (c : Config) (t : Timing) (is : timingOf c ≡ value t) (f : Figures t)
         met = refl;
       }
 
-  module _ (r : Run) (k : Key) (h : Kept c t is f r k) where
+  module _ (r : Run) (k : Prescribed) (h : Kept c t is f r k) where
     is-held : held (r .controller) ≡ k .course .waiting
     is-held = ap held (h .represents .state) ∙ take-append-seam (k .course .waiting) (replicate (h .represents .spare) vacant)
 
@@ -98,9 +98,9 @@ module _ (c : Config) (t : Timing) (is : timingOf c ≡ value t) (f : Figures t)
             let over = ltb-false (length (k .words)) 16777216 e in
             ap (λ y. y .outcome) (tick-ends c t is f (r .controller) (k .course) (h .bounds) (h .represents) (h .going) (omega arith))
 
-  from-kept : (calls : List Call) (r : Run) → Kept c t is f r (lay t calls) → Holds t calls r
+  from-kept : (calls : List Call) (r : Run) → Kept c t is f r (prescribed t calls) → Holds t calls r
   from-kept calls r h =
-      let k = lay t calls in
+      let k = prescribed t calls in
       record {
         laid-down = h .words;
         sound = rw (h .words) (h .sound);

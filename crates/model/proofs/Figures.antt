@@ -6,7 +6,7 @@ use mathlib.Core.Logic.{_⊎_}
 use native.Mathlib.Omega.{arith}
 use native.Mathlib.Nat.{le-div-iff-mul-le, div-mul-le-self, le-trans}
 use lib.Dec.{eqb}
-use Rattle.config.specs.Sheet.{rcOf, spacingOf, derived}
+use Rattle.config.specs.Configuration.{rcOf, spacingOf, derived}
 use Rattle.config.specs.declared.Config.{Config}
 use Rattle.config.specs.declared.Timing.{Timing}
 use Rattle.config.proofs.Accepted.{Accepted}

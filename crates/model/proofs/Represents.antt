@@ -10,7 +10,7 @@ use lib.ListN.{length, length-append, drop, replicate}
 use lib.Seq.{take-append-seam, set-append-seam}
 use lib.Dec.{eqb, ltb}
 use Rattle.config.specs.Outcome.{value}
-use Rattle.config.specs.Sheet.{timingOf}
+use Rattle.config.specs.Configuration.{timingOf}
 use Rattle.config.specs.declared.Config.{Config}
 use Rattle.config.specs.declared.Timing.{Timing}
 use Rattle.command.specs.Writing.{pairOf, requestFits, operationFits}

@@ -10,7 +10,7 @@ use lib.ListN.{length, length-append, replicate}
 use lib.Seq.{take-append-seam}
 use lib.Dec.{ltb}
 use Rattle.config.specs.Outcome.{value}
-use Rattle.config.specs.Sheet.{timingOf}
+use Rattle.config.specs.Configuration.{timingOf}
 use Rattle.config.specs.declared.Config.{Config}
 use Rattle.config.specs.declared.Timing.{Timing}
 use Rattle.command.specs.Writing.{requestFits}
@@ -23,7 +23,7 @@ use Rattle.rules.proofs.Words.{past-append, clock-is}
 use Rattle.model.specs.Laid as laid
 use Rattle.controller.specs.States.{vacant}
 use Rattle.controller.specs.Steps.{held, offerOf}
-use Rattle.model.specs.Runs.{Call, offer, tick, Accepted, Run, called, Key, followed, ifAccepted, requestsOf, runFrom, layFrom}
+use Rattle.model.specs.Runs.{Call, offer, tick, Accepted, Run, called, Prescribed, followed, ifAccepted, requestsOf, runFrom, prescribedFrom}
 use Rattle.model.proofs.Figures.{Figures}
 use Rattle.model.proofs.Fulfilled.{Met, one-asked}
 use Rattle.model.proofs.Unopened.{bound}
@@ -55,7 +55,7 @@ abbrev pub closingBound : Timing → Accepted → ℕ
 closingBound t a = bound t (a .ticks) (a .ahead)
 
 module _ (c : Config) (t : Timing) (is : timingOf c ≡ value t) (f : Figures t) where
-  pub record Kept (r : Run) (k : Key) : Type 0 where
+  pub record Kept (r : Run) (k : Prescribed) : Type 0 where
     pub words : r .words ≡ k .words
     pub past : k .course .past ≡ pastFrom nothing (k .words)
     pub clock : k .course .past .clock ≡ length (k .words)
@@ -68,7 +68,7 @@ module _ (c : Config) (t : Timing) (is : timingOf c ≡ value t) (f : Figures t)
     pub met : Met (firstsOf (k .course)) (map (closingBound t) (r .accepted)) bounds
 
   -- a tick
-  given : (r : Run) (k : Key) → Kept r k → length (k .words) < 16777216
+  given : (r : Run) (k : Prescribed) → Kept r k → length (k .words) < 16777216
       → let a = laid.tick t (k .course) in
       Kept (called r tick) (record { words = k .words ++ (a .word ∷ []); course = a .after })
   given r k h low =
@@ -93,7 +93,7 @@ module _ (c : Config) (t : Timing) (is : timingOf c ≡ value t) (f : Figures t)
         met = g .met (map (closingBound t) (r .accepted)) (h .met);
       })
 
-  pub tick-kept : (r : Run) (k : Key) → Kept r k → Kept (called r tick) (followed t k tick)
+  pub tick-kept : (r : Run) (k : Prescribed) → Kept r k → Kept (called r tick) (followed t k tick)
   tick-kept r k h = by (ltb (length (k .words)) 16777216) refl
     where
       a : laid.Advance
@@ -108,7 +108,7 @@ module _ (c : Config) (t : Timing) (is : timingOf c ≡ value t) (f : Figures t)
           rw (tick-ends c t is f (r .controller) (k .course) (h .bounds) (h .represents) (h .going) (omega arith), append-nil (r .words)) h
 
   -- an offer
-  taken : (r : Run) (k : Key) (q : Request) → Kept r k → requestFits t q ≡ true → length (k .course .waiting) < 16
+  taken : (r : Run) (k : Prescribed) (q : Request) → Kept r k → requestFits t q ≡ true → length (k .course .waiting) < 16
       → Kept (called r (offer q)) (record { words = k .words; course = laid.offered (k .course) q })
   taken r k q h fits few =
       let s = r .controller in
@@ -137,7 +137,7 @@ module _ (c : Config) (t : Timing) (is : timingOf c ≡ value t) (f : Figures t)
             (one-asked (firstsOf x) (map (closingBound t) (r .accepted)) (bound t (x .past .clock) (length (x .waiting))) (h .bounds) (h .met));
       })
 
-  pub offer-kept : (r : Run) (k : Key) (q : Request) → Kept r k → Kept (called r (offer q)) (followed t k (offer q))
+  pub offer-kept : (r : Run) (k : Prescribed) (q : Request) → Kept r k → Kept (called r (offer q)) (followed t k (offer q))
   offer-kept r k q h = by (requestFits t q) (ltb (length (k .course .waiting)) 16) refl refl
     where
       is-offer : offerOf (r .controller) q ≡ refusing c t is f (r .controller) (k .course .waiting) q
@@ -152,7 +152,7 @@ module _ (c : Config) (t : Timing) (is : timingOf c ≡ value t) (f : Figures t)
       by true false e g = rw (is-offer, e, g, append-nil (r .accepted)) h
       by false d e g = rw (is-offer, e, append-nil (r .accepted)) h
 
-  pub all-kept : (r : Run) (k : Key) (calls : List Call) → Kept r k → Kept (runFrom r calls) (layFrom t k calls)
+  pub all-kept : (r : Run) (k : Prescribed) (calls : List Call) → Kept r k → Kept (runFrom r calls) (prescribedFrom t k calls)
   all-kept r k [] h = h
   all-kept r k (tick ∷ calls) h = all-kept (called r tick) (followed t k tick) calls (tick-kept r k h)
   all-kept r k (offer q ∷ calls) h = all-kept (called r (offer q)) (followed t k (offer q)) calls (offer-kept r k q h)

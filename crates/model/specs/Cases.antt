@@ -6,7 +6,7 @@ use mathlib.Core.Bool.{Bool, true, false, cond}
 use mathlib.Core.List.{List, [], _∷_, _++_}
 use lib.Dec.{eqb}
 use Rattle.command.specs.declared.operation.Request.{Request}
-use Rattle.config.specs.Sheet.{institute, derived}
+use Rattle.config.specs.Configuration.{institute, derived}
 use Rattle.config.specs.declared.Timing.{Timing}
 use Rattle.command.specs.Pins.{level}
 use Rattle.protocol.specs.Cases.{Row, row, agree, words, startUp, readAt, table as checked}

@@ -6,19 +6,19 @@ use mathlib.Core.List.{List, _∷_, _++_, map}
 use lib.ListN.{length, getD}
 use lib.Dec.{ltb}
 use Rattle.config.specs.Outcome.{value, refused, require}
-use Rattle.config.specs.Sheet.{timingOf}
+use Rattle.config.specs.Configuration.{timingOf}
 use Rattle.config.specs.declared.Config.{Config}
 use Rattle.config.specs.declared.Timing.{Timing}
 use Rattle.command.specs.Writing.{requestFits}
 use Rattle.command.specs.declared.operation.Request.{Request}
 use Rattle.rules.specs.Verdict.{accepted, judge}
-use Rattle.model.specs.Runs.{Call, Accepted, Run, run, lay, pairsOf, requestsOf, firstWords, latestStart}
+use Rattle.model.specs.Runs.{Call, Accepted, Run, run, prescribed, pairsOf, requestsOf, firstWords, latestStart}
 use Rattle.controller.specs.Steps.{held, offerOf, tickOf}
 
 -- of the run r of these calls
 pub record Holds (t : Timing) (calls : List Call) (r : Run) : Type 0 where
   -- "The words given are those that the scope paper lays down for tick"
-  pub laid-down : r .words ≡ lay t calls .words
+  pub laid-down : r .words ≡ prescribed t calls .words
   -- "and they keep every rule."
   pub sound : judge t (r .words) ≡ accepted
   -- "The requests of their read and write pairs, followed by those the controller holds waiting, are the accepted requests, all of them,
@@ -27,7 +27,7 @@ pub record Holds (t : Timing) (calls : List Call) (r : Run) : Type 0 where
   -- "A request accepted at clock c with q waiting has its first word no later than clock max(c, 201) + (q + 1) × S + RC + REFC, if ticks
   -- were granted that far". "Ticks were granted as far as a clock when the word at that clock is among those given."
   pub prompt : (older newer : List Accepted) (a : Accepted) → r .accepted ≡ older ++ a ∷ newer → latestStart t a < length (r .words)
-      → let firsts = firstWords (r .words) (lay t calls .course .opened) in
+      → let firsts = firstWords (r .words) (prescribed t calls .course .opened) in
       (length older < length firsts) × (getD firsts (length older) 0 ≤ latestStart t a)
   -- "an offer is refused exactly for 26 or 27", whatever is offered next
   pub offer-refused : (q : Request) → offerOf (r .controller) q .outcome ≡ require (requestFits t q) 26 (require (ltb (length (held (r .controller))) 16) 27 (value tt))

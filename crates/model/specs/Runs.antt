@@ -59,24 +59,24 @@ abbrev pub run : Config → List Call → Run
 run c calls = runFrom (record { words = []; accepted = []; controller = fresh c }) calls
 
 -- what is laid down for the calls: the words, and how far they have come
-pub record Key : Type 0 where
+pub record Prescribed : Type 0 where
   pub words : List ℕ
   pub course : laid.Course
 
 -- an offer is refused "exactly for 26 or 27, a tick exactly for 24"
-abbrev pub followed : Timing → Key → Call → Key
+abbrev pub followed : Timing → Prescribed → Call → Prescribed
 followed t k (offer q) =
     cond (requestFits t q && ltb (length (k .course .waiting)) 16) (record { words = k .words; course = laid.offered (k .course) q }) k
 followed t k tick =
     let a = laid.tick t (k .course) in
     cond (ltb (length (k .words)) 16777216) (record { words = k .words ++ (a .word ∷ []); course = a .after }) k
 
-abbrev pub layFrom : Timing → Key → List Call → Key
-layFrom t k [] = k
-layFrom t k (x ∷ xs) = layFrom t (followed t k x) xs
+abbrev pub prescribedFrom : Timing → Prescribed → List Call → Prescribed
+prescribedFrom t k [] = k
+prescribedFrom t k (x ∷ xs) = prescribedFrom t (followed t k x) xs
 
-abbrev pub lay : Timing → List Call → Key
-lay t calls = layFrom t (record { words = []; course = laid.start }) calls
+abbrev pub prescribed : Timing → List Call → Prescribed
+prescribed t calls = prescribedFrom t (record { words = []; course = laid.start }) calls
 
 abbrev pub pairsOf : List ℕ → List ClosedPair
 pairsOf words = pastFrom nothing words .pairs

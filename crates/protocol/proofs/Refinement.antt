@@ -9,7 +9,7 @@ use borrow.Author.Tests.{lt-ltb, eq-eqb, ne-eqb, ltb-true}
 use lib.ListN.{length}
 use lib.Dec.{eqb, ltb}
 use Rattle.config.specs.Outcome.{Outcome, value, refused}
-use Rattle.config.specs.Sheet.{timingOf}
+use Rattle.config.specs.Configuration.{timingOf}
 use Rattle.config.specs.declared.Config.{Config}
 use Rattle.config.specs.declared.Timing.{Timing}
 use Rattle.config.proofs.Outcomes.{refused-value, same-number, refused-by}

@@ -6,7 +6,7 @@ use mathlib.Core.List.{List, [], _∷_, _++_}
 use lib.ListN.{replicate}
 use lib.Dec.{eqb}
 use Rattle.config.specs.Outcome.{Outcome, value, refused}
-use Rattle.config.specs.Sheet.{institute, timingOf}
+use Rattle.config.specs.Configuration.{institute, timingOf}
 use Rattle.config.specs.declared.Config.{Config}
 use Rattle.command.specs.Writing.{writePair}
 use Rattle.command.specs.declared.operation.Operation.the-variants.{Access}
@@ -51,8 +51,8 @@ number (value (breach k n)) = k * 100 + n
 number (refused n) = n
 
 -- the verdict on the start-up, these pairs, and DESL behind them
-abbrev pub marked : List At → ℕ → ℕ
-marked ps more = number (checkOf institute (words 0 (startUp ++ ps) more))
+abbrev pub verdictOn : List At → ℕ → ℕ
+verdictOn ps more = number (checkOf institute (words 0 (startUp ++ ps) more))
 
 abbrev pub withPeriod : ℕ → Config
 withPeriod p =
@@ -89,20 +89,20 @@ lalOf (refused n) = 0
 abbrev pub table : List Row
 table =
     -- b. Same bank reads 201, 206 pass; 201, 205: breach 7 at 206.
-    row (marked (readAt 201 0 ∷ readAt 206 0 ∷ []) 0) 0
-    ∷ row (marked (readAt 201 0 ∷ readAt 205 0 ∷ []) 0) 20607
+    row (verdictOn (readAt 201 0 ∷ readAt 206 0 ∷ []) 0) 0
+    ∷ row (verdictOn (readAt 201 0 ∷ readAt 205 0 ∷ []) 0) 20607
     -- c. Read 201, other bank's write 205 passes; 204: breach 8 at 205.
-    ∷ row (marked (readAt 201 0 ∷ writeAt 205 bank1 ∷ []) 0) 0
-    ∷ row (marked (readAt 201 0 ∷ writeAt 204 bank1 ∷ []) 0) 20508
+    ∷ row (verdictOn (readAt 201 0 ∷ writeAt 205 bank1 ∷ []) 0) 0
+    ∷ row (verdictOn (readAt 201 0 ∷ writeAt 204 bank1 ∷ []) 0) 20508
     -- d. Write 201, other bank's read 203 passes.
-    ∷ row (marked (writeAt 201 0 ∷ readAt 203 bank1 ∷ []) 0) 0
+    ∷ row (verdictOn (writeAt 201 0 ∷ readAt 203 bank1 ∷ []) 0) 0
     -- e. Last REF 33: REF at 813 passes; none: breach 3 at 814.
-    ∷ row (marked (pair 812 0x80000 0x80000 ∷ []) 0) 0
-    ∷ row (marked [] 780) 0
-    ∷ row (marked [] 781) 81403
+    ∷ row (verdictOn (pair 812 0x80000 0x80000 ∷ []) 0) 0
+    ∷ row (verdictOn [] 780) 0
+    ∷ row (verdictOn [] 781) 81403
     -- f. Read 201, mode 208 passes; 207: breach 11 at 208.
-    ∷ row (marked (readAt 201 0 ∷ modeAt 208 ∷ []) 0) 0
-    ∷ row (marked (readAt 201 0 ∷ modeAt 207 ∷ []) 0) 20811
+    ∷ row (verdictOn (readAt 201 0 ∷ modeAt 208 ∷ []) 0) 0
+    ∷ row (verdictOn (readAt 201 0 ∷ modeAt 207 ∷ []) 0) 20811
     -- g. Write LAL, column 0, four words each lane: D1000.
     ∷ row (lalOf (writePair institute (Access (record { write = true; bank = 0; row = 0; column = 0; lower = 4; upper = 4 })))) 0xD1000
     -- h. Period 4500 fits; 4499 refuses 21.
@@ -113,6 +113,3 @@ table =
 abbrev pub agree : List Row → Bool
 agree [] = true
 agree (r ∷ rs) = eqb (r .found) (r .published) && agree rs
-
-pub cases : agree table ≡ true
-cases = refl

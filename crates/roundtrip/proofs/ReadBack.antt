@@ -8,7 +8,7 @@ use native.Mathlib.Omega.{arith}
 use borrow.Author.Tests.{eqb-true, le-leb, not-true, not-false}
 use native.Mathlib.Nat.{mod-lt, le-pred-of-lt, zero-add, add-zero, add-assoc, zero-mul}
 use lib.Dec.{eqb, leb, lit<}
-use Rattle.config.specs.Sheet.{derived}
+use Rattle.config.specs.Configuration.{derived}
 use Rattle.config.specs.declared.Config.{Config}
 use Rattle.config.specs.declared.Timing.{Timing}
 use Rattle.config.proofs.Bounds.{both}

@@ -2,7 +2,7 @@
 -- for which WrittenBack and ReadBack have the two halves. Assumes nothing.
 use mathlib.Core.Path.{_≡_, ap, subst}
 use Rattle.config.specs.Outcome.{value, require}
-use Rattle.config.specs.Sheet.{derived}
+use Rattle.config.specs.Configuration.{derived}
 use Rattle.config.specs.declared.Config.{Config}
 use Rattle.config.proofs.Outcomes.{require-value}
 use Rattle.config.proofs.Bounds.{cl-bounds, bl-cases}

@@ -1,6 +1,6 @@
 -- The verdict is the published one, and small. Assumes nothing.
 use denote.Ref.{now}
-use Rattle.fcram.specs.Number.{sheet}
+use Rattle.fcram.specs.Number.{configOf}
 use Rattle.fcram.proofs.Bounded.{answer-small}
 use borrow.Author.Needs.{needs}
 use Rattle.fcram.proofs.fcram_check.Statement.{statement}
@@ -14,7 +14,7 @@ number-requires c κs =
     let a = c .before .before .args in
     rw (c .check-bytes .ensures)
     (answer-small
-    (sheet (a .grade) (a .cl) (a .bl) (a .organisation) (a .period) (a .rbd) (a .rwd) (a .wrd) (a .rsc) (a .refc))
+    (configOf (a .grade) (a .cl) (a .bl) (a .organisation) (a .period) (a .rbd) (a .rwd) (a .wrd) (a .rsc) (a .refc))
     (now (a .trace)))
 
 returns : tie.Need-returns

@@ -1,7 +1,7 @@
 -- A step on the word at the clock, or what is answered with no word left. Assumes nothing.
 use borrow.Author.Needs.{needs}
 use denote.Ref.{now}
-use Rattle.config.specs.Sheet.{timingOf}
+use Rattle.config.specs.Configuration.{timingOf}
 use Rattle.borrowed.proofs.Walk.{is-step, is-end}
 use Rattle.borrowed.proofs.cursor.next_word.Statement.{statement}
 use Rattle.borrowed.proofs.cursor.next_word.Tie as tie

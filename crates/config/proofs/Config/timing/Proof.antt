@@ -4,7 +4,7 @@ use borrow.Author.Tests.{not-true, not-false}
 use mathlib.Core.Path.{_≡_, sym, _∙_}
 use mathlib.Core.Bool.{true}
 use native.Mathlib.Omega.{arith}
-use Rattle.config.specs.Sheet.{partFits, periodFits, countsFit}
+use Rattle.config.specs.Configuration.{partFits, periodFits, countsFit}
 use Rattle.config.proofs.Bounds.{cl-bounds, count-bounds, period-bounds}
 use Rattle.config.proofs.Config.timing.Statement.{statement}
 use Rattle.config.proofs.Config.timing.Tie as tie

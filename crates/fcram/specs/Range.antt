@@ -1,0 +1,9 @@
+-- For a private function alone: what keeps the number within 32 bits.
+use Prim.Native.Nat.{_<_}
+use Rattle.config.specs.Outcome.{Outcome, value, refused}
+use Rattle.rules.specs.Verdict.{Judgement, accepted, breach}
+
+abbrev pub Small : Outcome Judgement → Type 0
+Small (value accepted) = Unit {0}
+Small (value (breach clock n)) = (clock < 16777216) × (n < 64)
+Small (refused n) = Unit {0}
