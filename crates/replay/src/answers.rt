@@ -1,4 +1,5 @@
 // The lines that answers are written as.
+use borrowed::cursor::Progress;
 use command::Operation;
 use command::ReadAnswer;
 use command::Request;
@@ -101,16 +102,28 @@ fn in_breach(breach: Breach) {
     end();
 }
 
+fn pass(clock: u32) {
+    text(b"pass");
+    number(clock);
+    end();
+}
+
 // A step's answer, with the clock that the checker has reached.
 pub fn stepped(verdict: Verdict, clock: u32) {
     match verdict {
-        Verdict::Accepted => {
-            text(b"pass");
-            number(clock);
-            end();
-        }
+        Verdict::Accepted => pass(clock),
         Verdict::InBreach(breach) => in_breach(breach),
         Verdict::Refused(why) => refused(why),
+    }
+}
+
+// An advance's answer, with the clock that the walk has reached.
+pub fn advanced(progress: Progress, clock: u32) {
+    match progress {
+        Progress::Passed => pass(clock),
+        Progress::InBreach(breach) => in_breach(breach),
+        Progress::Refused(why) => refused(why),
+        Progress::End => text(b"end\n"),
     }
 }
 
