@@ -8,6 +8,7 @@ use crate::pair::{self, Operation, Request};
 use crate::past::{Both, Past};
 use crate::script::{bytes, Call, PairNumbers};
 use crate::sheet::{Sheet, SHEET_E};
+use crate::walk::{Move, Walk};
 use crate::word::DESL;
 use std::fmt::Write;
 
@@ -52,11 +53,9 @@ impl Player {
                 Ok(Verdict::Breach { clock, number }) => format!("breach {clock} {number}\n"),
                 Err(number) => refused(number),
             },
-            Call::Offer(numbers) => match self.controller.offer(Request::from_numbers(*numbers)) {
-                Ok(()) => "offered\n".to_string(),
-                Err(number) => refused(number),
-            },
-            Call::Tick(count) => self.tick(*count),
+            // A lent controller answers and is left as one that is handed back.
+            Call::Offer(numbers) | Call::OfferLent(numbers) => self.offer(*numbers),
+            Call::Tick(count) | Call::TickLent(count) => self.tick(*count),
             Call::ReadPair(first, second) => match pair::read(&self.sheet, *first, *second) {
                 Ok(operation) => operation_line(&operation),
                 Err(number) => refused(number),
@@ -80,6 +79,7 @@ impl Player {
                 }
                 text
             }
+            Call::Walk(words) => self.walk(words),
         }
     }
 
@@ -93,6 +93,26 @@ impl Player {
             }
         }
         format!("pass {}\n", self.checker.past.clock())
+    }
+
+    /// Walks until a move does not pass, and once more.
+    fn walk(&self, words: &[u32]) -> String {
+        let mut walk = Walk::<Both>::fresh(self.sheet, words);
+        let mut stop = walk.advance();
+        while stop == Some(Step::Pass) {
+            stop = walk.advance();
+        }
+        let again = walk.advance();
+        let clock = walk.checker.past.clock();
+        move_line(stop, clock) + &move_line(again, clock)
+    }
+
+    /// Offers a request to the controller.
+    fn offer(&mut self, numbers: [u32; 6]) -> String {
+        match self.controller.offer(Request::from_numbers(numbers)) {
+            Ok(()) => "offered\n".to_string(),
+            Err(number) => refused(number),
+        }
     }
 
     /// Ticks the controller, ending at the first tick that is refused. DESL is left out by its word,
@@ -114,6 +134,16 @@ impl Player {
 /// The line of a refusal.
 fn refused(number: u32) -> String {
     format!("refused {number}\n")
+}
+
+/// The line of a walk's move, with the clock that it has reached.
+fn move_line(moved: Move, clock: u32) -> String {
+    match moved {
+        None => "end\n".to_string(),
+        Some(Step::Pass) => format!("pass {clock}\n"),
+        Some(Step::Breach { clock, number }) => format!("breach {clock} {number}\n"),
+        Some(Step::Refused(number)) => refused(number),
+    }
 }
 
 /// Numbers in decimal with a blank between.

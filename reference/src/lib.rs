@@ -18,4 +18,5 @@ pub mod script;
 pub mod sheet;
 pub mod suites;
 pub mod summary;
+pub mod walk;
 pub mod word;

@@ -208,8 +208,10 @@ pub fn check(calls: &[Call], text: &str) -> Result<Vec<String>, (usize, String)>
                 seen.append(&mut list.seen);
                 list = List::on(Sheet::from_numbers(*numbers));
             }
-            Call::Offer(numbers) if fit => list.offer(numbers, line).map_err(place)?,
-            Call::Tick(count) if fit => {
+            Call::Offer(numbers) | Call::OfferLent(numbers) if fit => {
+                list.offer(numbers, line).map_err(place)?
+            }
+            Call::Tick(count) | Call::TickLent(count) if fit => {
                 while !list.tick(before, *count, lines[at]).map_err(place)? {
                     at += 1;
                     lines.get(at).ok_or((i, "no line".to_string()))?;
@@ -221,6 +223,7 @@ pub fn check(calls: &[Call], text: &str) -> Result<Vec<String>, (usize, String)>
                 list.shown(shown).map_err(place)?;
                 at += more;
             }
+            Call::Walk(_) => at += 1,
             _ => {}
         }
         at += 1;

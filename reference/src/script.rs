@@ -22,6 +22,12 @@ pub enum Call {
     Count(Vec<u32>),
     /// The requests waiting.
     Waiting,
+    /// A walk over the words.
+    Walk(Vec<u32>),
+    /// Offer a request to a lent controller.
+    OfferLent([u32; 6]),
+    /// Tick a lent controller count times.
+    TickLent(u32),
 }
 
 /// The operation of a pair to be written, in raw numbers.
@@ -49,6 +55,9 @@ impl Call {
             Call::WritePair(_) => 7,
             Call::Count(_) => 8,
             Call::Waiting => 9,
+            Call::Walk(_) => 10,
+            Call::OfferLent(_) => 11,
+            Call::TickLent(_) => 12,
         }
     }
 
@@ -58,9 +67,9 @@ impl Call {
         match self {
             Call::Config(sheet) => sheet.to_vec(),
             Call::Step { count, word } => vec![*count, *word],
-            Call::Check(words) | Call::Count(words) => counted(words),
-            Call::Offer(request) => request.to_vec(),
-            Call::Tick(count) => vec![*count],
+            Call::Check(words) | Call::Count(words) | Call::Walk(words) => counted(words),
+            Call::Offer(request) | Call::OfferLent(request) => request.to_vec(),
+            Call::Tick(count) | Call::TickLent(count) => vec![*count],
             Call::ReadPair(first, second) => vec![*first, *second],
             Call::WritePair(PairNumbers::Access(request)) => [&[0], &request[..]].concat(),
             Call::WritePair(PairNumbers::Regular(a3)) => vec![1, *a3],
@@ -100,6 +109,9 @@ impl Call {
             }),
             8 => Call::Count(counted(rest)?),
             9 => Call::Waiting,
+            10 => Call::Walk(counted(rest)?),
+            11 => Call::OfferLent(some(rest)?),
+            12 => Call::TickLent(one(rest)?),
             _ => return None,
         };
         Some(call)

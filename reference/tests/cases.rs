@@ -1,11 +1,13 @@
 //! The eight cases of the scope paper with both of their edges, and its figures.
 
+use reference::checker::Step;
 use reference::controller::Controller;
 use reference::expected::expected;
-use reference::judge::{check, judge, History, Verdict};
+use reference::judge::{check, judge, History, Verdict, LONGEST};
 use reference::pair::{self, Operation, Request};
 use reference::sheet::{Sheet, SHEET_E};
 use reference::summary::Summary;
+use reference::walk::Walk;
 use reference::word::DESL;
 
 const START_UP: [(u32, u32); 8] = [
@@ -191,4 +193,18 @@ fn a_script_as_the_replay_program_answers_it() {
         "script refused",
     ];
     assert_eq!(expected(&script).lines().collect::<Vec<_>>(), lines);
+}
+
+/// A walk says end where its words have run out, at the last clock too; with a word left it refuses
+/// 24 there.
+#[test]
+fn walks_end_with_their_words() {
+    let words = vec![DESL; LONGEST as usize + 1];
+    for (length, stop) in [(LONGEST, None), (LONGEST + 1, Some(Step::Refused(24)))] {
+        let mut walk = Walk::<Summary>::fresh(SHEET_E, &words[..length as usize]);
+        for _ in 0..LONGEST {
+            assert_eq!(walk.advance(), Some(Step::Pass));
+        }
+        assert_eq!([walk.advance(), walk.advance()], [stop, stop]);
+    }
 }

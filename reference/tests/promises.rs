@@ -13,7 +13,7 @@ fn list(ticks: u32) -> (Vec<Call>, String) {
     let calls = vec![
         Call::Offer(READ),
         Call::Offer(UNFIT),
-        Call::Offer(WRITE),
+        Call::OfferLent(WRITE),
         Call::Offer(READ),
         Call::Tick(ticks),
         Call::Waiting,

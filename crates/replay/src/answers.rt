@@ -1,4 +1,5 @@
 // The lines that answers are written as.
+use borrowed::cursor::Progress;
 use command::Operation;
 use command::ReadAnswer;
 use command::Request;
@@ -26,7 +27,7 @@ fn end() {
     text(b"\n");
 }
 
-pub fn script_refused() {
+pub(crate) fn script_refused() {
     text(b"script refused\n");
 }
 
@@ -36,7 +37,7 @@ fn refused(why: Refusal) {
     end();
 }
 
-pub fn config(answer: TimingAnswer) {
+pub(crate) fn config(answer: TimingAnswer) {
     text(b"config");
     match answer {
         TimingAnswer::Accepted(_) => number(0),
@@ -75,14 +76,14 @@ fn operation(o: Operation) {
     }
 }
 
-pub fn read(answer: ReadAnswer) {
+pub(crate) fn read(answer: ReadAnswer) {
     match answer {
         ReadAnswer::Read(o) => operation(o),
         ReadAnswer::Refused(why) => refused(why),
     }
 }
 
-pub fn written(answer: WriteAnswer) {
+pub(crate) fn written(answer: WriteAnswer) {
     match answer {
         WriteAnswer::Written(pair) => {
             text(b"words");
@@ -101,21 +102,33 @@ fn in_breach(breach: Breach) {
     end();
 }
 
+fn pass(clock: u32) {
+    text(b"pass");
+    number(clock);
+    end();
+}
+
 // A step's answer, with the clock that the checker has reached.
-pub fn stepped(verdict: Verdict, clock: u32) {
+pub(crate) fn stepped(verdict: Verdict, clock: u32) {
     match verdict {
-        Verdict::Accepted => {
-            text(b"pass");
-            number(clock);
-            end();
-        }
+        Verdict::Accepted => pass(clock),
         Verdict::InBreach(breach) => in_breach(breach),
         Verdict::Refused(why) => refused(why),
     }
 }
 
+// An advance's answer, with the clock that the walk has reached.
+pub(crate) fn advanced(progress: Progress, clock: u32) {
+    match progress {
+        Progress::Passed => pass(clock),
+        Progress::InBreach(breach) => in_breach(breach),
+        Progress::Refused(why) => refused(why),
+        Progress::End => text(b"end\n"),
+    }
+}
+
 // The whole check's answer, with the count of words.
-pub fn checked(verdict: Verdict, count: u32) {
+pub(crate) fn checked(verdict: Verdict, count: u32) {
     match verdict {
         Verdict::Accepted => {
             text(b"accepted");
@@ -127,7 +140,7 @@ pub fn checked(verdict: Verdict, count: u32) {
     }
 }
 
-pub fn counted(answer: CountsAnswer) {
+pub(crate) fn counted(answer: CountsAnswer) {
     match answer {
         CountsAnswer::Counted(counts) => {
             text(b"counts");
@@ -142,7 +155,7 @@ pub fn counted(answer: CountsAnswer) {
     }
 }
 
-pub fn offered(answer: CallAnswer) {
+pub(crate) fn offered(answer: CallAnswer) {
     match answer {
         CallAnswer::Accepted => text(b"offered\n"),
         CallAnswer::Refused(why) => refused(why),
@@ -150,7 +163,7 @@ pub fn offered(answer: CallAnswer) {
 }
 
 // A word that a tick gave, with its clock.
-pub fn word(clock: u32, word: u32) {
+pub(crate) fn word(clock: u32, word: u32) {
     text(b"word");
     number(clock);
     number(word);
@@ -158,7 +171,7 @@ pub fn word(clock: u32, word: u32) {
 }
 
 // The answer of the last tick, with the clock that the controller has reached.
-pub fn ticked(answer: CallAnswer, clock: u32) {
+pub(crate) fn ticked(answer: CallAnswer, clock: u32) {
     match answer {
         CallAnswer::Accepted => {
             text(b"clock");
@@ -169,7 +182,7 @@ pub fn ticked(answer: CallAnswer, clock: u32) {
     }
 }
 
-pub fn waiting(controller: Controller) {
+pub(crate) fn waiting(controller: Controller) {
     let requests = controller.waiting;
     text(b"waiting");
     number(controller.count);

@@ -13,24 +13,27 @@ use crate::traces;
 use command::Operation;
 use command::Pair;
 
-pub fn call(bytes: &[u8], at: usize, state: State) -> Step {
+pub(crate) fn call(bytes: &[u8], at: usize, state: State) -> Step {
     let code = word(bytes, at, 0);
     match code {
         1 => configure(bytes, at, state),
         2 => traces::step(bytes, at, state),
-        3 => traces::check(bytes, at, state),
+        3 => traces::trace(bytes, at, state),
         4 => ticks::offer(bytes, at, state),
         5 => ticks::tick(bytes, at, state),
         6 => read(bytes, at, state),
         7 => write(bytes, at, state),
-        8 => traces::count(bytes, at, state),
+        8 => traces::trace(bytes, at, state),
         9 => ticks::waiting(at, state),
+        10 => traces::trace(bytes, at, state),
+        11 => ticks::offer(bytes, at, state),
+        12 => ticks::tick(bytes, at, state),
         _ => Step { state, next: 0 },
     }
 }
 
 // The step behind a call of this many words.
-pub fn behind(state: State, at: usize, count: usize) -> Step {
+pub(crate) fn behind(state: State, at: usize, count: usize) -> Step {
     Step {
         state,
         next: ahead(at, count),

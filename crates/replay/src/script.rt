@@ -21,7 +21,7 @@ pub struct Step {
 }
 
 // A fresh checker and a fresh controller on a configuration, accepted or not.
-pub fn start(config: Config) -> State {
+pub(crate) fn start(config: Config) -> State {
     State {
         config,
         checker: Checker::fresh(config),
@@ -30,7 +30,7 @@ pub fn start(config: Config) -> State {
 }
 
 // The call at this index has this many words, its code among them.
-pub fn holds(bytes: &[u8], at: usize, count: usize) -> bool {
+pub(crate) fn holds(bytes: &[u8], at: usize, count: usize) -> bool {
     let words = bytes.len() / 4;
     if words < at {
         return false;
@@ -39,7 +39,7 @@ pub fn holds(bytes: &[u8], at: usize, count: usize) -> bool {
 }
 
 // The index that is a number of words further on; 0 past any script.
-pub fn ahead(at: usize, count: usize) -> usize {
+pub(crate) fn ahead(at: usize, count: usize) -> usize {
     if at <= 65536 {
         if count <= 65536 {
             return at + count;
@@ -49,11 +49,11 @@ pub fn ahead(at: usize, count: usize) -> usize {
 }
 
 // The word that is a number of words further on.
-pub fn word(bytes: &[u8], at: usize, count: usize) -> u32 {
+pub(crate) fn word(bytes: &[u8], at: usize, count: usize) -> u32 {
     words::word_at(bytes, ahead(at, count))
 }
 
-pub fn config_at(bytes: &[u8], at: usize) -> Config {
+pub(crate) fn config_at(bytes: &[u8], at: usize) -> Config {
     Config {
         grade: word(bytes, at, 0),
         cl: word(bytes, at, 1),
@@ -68,7 +68,7 @@ pub fn config_at(bytes: &[u8], at: usize) -> Config {
     }
 }
 
-pub fn request_at(bytes: &[u8], at: usize) -> Request {
+pub(crate) fn request_at(bytes: &[u8], at: usize) -> Request {
     Request {
         write: word(bytes, at, 0) != 0,
         bank: word(bytes, at, 1),
@@ -80,7 +80,7 @@ pub fn request_at(bytes: &[u8], at: usize) -> Request {
 }
 
 // The words from an index on, 0 behind the last.
-pub fn loaded(bytes: &[u8], at: usize) -> [u32; 16384]
+pub(crate) fn loaded(bytes: &[u8], at: usize) -> [u32; 16384]
     ensures { λ r. ⌜ 16384 ≡ length r ⌝ }
 {
     let mut buffer = [0u32; 16384];

@@ -7,8 +7,12 @@ use crate::script::ahead;
 use crate::script::holds;
 use crate::script::request_at;
 use crate::script::word;
+use borrowed::offer_through;
+use borrowed::tick_through;
+use command::Request;
 use controller::CallAnswer;
 use controller::Controller;
+use controller::Offered;
 use controller::Ticked;
 use rules::DESL;
 
@@ -23,13 +27,32 @@ fn with_controller(state: State, controller: Controller) -> State {
     }
 }
 
-// 4: offer the request.
-pub fn offer(bytes: &[u8], at: usize, state: State) -> Step {
+// By value, or by the form that borrows.
+fn offer_by(code: u32, controller: Controller, request: Request) -> Offered {
+    match code {
+        4 => controller.offer(request),
+        _ => offer_through(controller, request),
+    }
+}
+
+fn tick_by(code: u32, controller: Controller) -> Ticked {
+    match code {
+        5 => controller.tick(),
+        _ => tick_through(controller),
+    }
+}
+
+// 4 and 11: offer the request.
+pub(crate) fn offer(bytes: &[u8], at: usize, state: State) -> Step {
     if !holds(bytes, at, 7) {
         return Step { state, next: 0 };
     }
     let controller = state.controller;
-    let offered = controller.offer(request_at(bytes, ahead(at, 1)));
+    let offered = offer_by(
+        word(bytes, at, 0),
+        controller,
+        request_at(bytes, ahead(at, 1)),
+    );
     let answer = offered.answer;
     let controller = offered.controller;
     answers::offered(answer);
@@ -44,11 +67,11 @@ fn accepted(answer: CallAnswer) -> bool {
 }
 
 // Ticks count times, ending at the first that is refused, and writes each word that is not DESL.
-fn tick_many(controller: Controller, count: u32) -> Ticked {
+fn tick_many(code: u32, controller: Controller, count: u32) -> Ticked {
     let mut now = controller;
     let mut left = count;
     while 0 < left {
-        let ticked = now.tick();
+        let ticked = tick_by(code, now);
         let answer = ticked.answer;
         if !accepted(answer) {
             return ticked;
@@ -66,13 +89,13 @@ fn tick_many(controller: Controller, count: u32) -> Ticked {
     }
 }
 
-// 5: tick.
-pub fn tick(bytes: &[u8], at: usize, state: State) -> Step {
+// 5 and 12: tick.
+pub(crate) fn tick(bytes: &[u8], at: usize, state: State) -> Step {
     if !holds(bytes, at, 2) {
         return Step { state, next: 0 };
     }
     let controller = state.controller;
-    let ticked = tick_many(controller, word(bytes, at, 1));
+    let ticked = tick_many(word(bytes, at, 0), controller, word(bytes, at, 1));
     let answer = ticked.answer;
     let controller = ticked.controller;
     answers::ticked(answer, controller.clock);
@@ -80,7 +103,7 @@ pub fn tick(bytes: &[u8], at: usize, state: State) -> Step {
 }
 
 // 9: the requests waiting.
-pub fn waiting(at: usize, state: State) -> Step {
+pub(crate) fn waiting(at: usize, state: State) -> Step {
     let controller = state.controller;
     answers::waiting(controller);
     behind(state, at, 1)

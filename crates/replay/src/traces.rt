@@ -1,4 +1,4 @@
-// The calls on words of a trace: step the checker, check a whole trace, count its commands.
+// The calls on words of a trace: step the checker, check a whole trace, count its commands, walk over it.
 use crate::answers;
 use crate::calls::behind;
 use crate::script::State;
@@ -7,6 +7,10 @@ use crate::script::ahead;
 use crate::script::holds;
 use crate::script::loaded;
 use crate::script::word;
+use borrowed::cursor::Moved;
+use borrowed::cursor::Progress;
+use borrowed::cursor::advance_through;
+use config::Config;
 use protocol::Checker;
 use protocol::Stepped;
 use protocol::Verdict;
@@ -39,7 +43,7 @@ fn step_many(checker: Checker, count: u32, word: u32) -> Stepped {
 }
 
 // 2: step the checker.
-pub fn step(bytes: &[u8], at: usize, state: State) -> Step {
+pub(crate) fn step(bytes: &[u8], at: usize, state: State) -> Step {
     if !holds(bytes, at, 3) {
         return Step { state, next: 0 };
     }
@@ -61,6 +65,48 @@ pub fn step(bytes: &[u8], at: usize, state: State) -> Step {
     )
 }
 
+fn moved_on(progress: Progress) -> bool {
+    match progress {
+        Progress::Passed => true,
+        Progress::InBreach(_) => false,
+        Progress::Refused(_) => false,
+        Progress::End => false,
+    }
+}
+
+// Advances a walk over the words, count times, ending at the first that does not pass.
+fn advance_many(words: &[u32], checker: Checker, count: usize) -> Moved {
+    let mut now = checker;
+    let mut left = count;
+    while 0 < left {
+        let moved = advance_through(words, now);
+        let progress = moved.progress;
+        if !moved_on(progress) {
+            return moved;
+        }
+        now = moved.checker;
+        left -= 1;
+    }
+    Moved {
+        progress: Progress::Passed,
+        checker: now,
+    }
+}
+
+fn write_advance(moved: Moved) {
+    let progress = moved.progress;
+    let checker = moved.checker;
+    answers::advanced(progress, checker.clock);
+}
+
+// A walk as far as it goes, and once more. A script has no more than 16,384 words.
+fn walk(words: &[u32], config: Config) {
+    let stopped = advance_many(words, Checker::fresh(config), 16385);
+    write_advance(stopped);
+    let checker = stopped.checker;
+    write_advance(advance_through(words, checker));
+}
+
 // The words of a call that holds their number and then them; refused where the script ends inside it.
 fn trace_fits(bytes: &[u8], at: usize) -> bool {
     let count = word(bytes, at, 1) as usize;
@@ -70,30 +116,27 @@ fn trace_fits(bytes: &[u8], at: usize) -> bool {
     holds(bytes, at, ahead(count, 2))
 }
 
-// 3: the whole check.
-pub fn check(bytes: &[u8], at: usize, state: State) -> Step {
+// A call on the words of a trace, of which there are count.
+fn on_words(code: u32, count: u32, words: &[u32], config: Config) {
+    match code {
+        3 => answers::checked(protocol::check(config, words), count),
+        8 => answers::counted(counts::count_commands(words)),
+        _ => walk(words, config),
+    }
+}
+
+// 3: the whole check. 8: count the commands. 10: a walk.
+pub(crate) fn trace(bytes: &[u8], at: usize, state: State) -> Step {
     if !trace_fits(bytes, at) {
         return Step { state, next: 0 };
     }
+    let code = word(bytes, at, 0);
     let count = word(bytes, at, 1);
     let length = count as usize;
     let buffer = loaded(bytes, ahead(at, 2));
     let config = state.config;
     if length <= 16384 {
-        answers::checked(protocol::check(config, &buffer[..length]), count);
-    }
-    behind(state, at, ahead(length, 2))
-}
-
-// 8: count the commands.
-pub fn count(bytes: &[u8], at: usize, state: State) -> Step {
-    if !trace_fits(bytes, at) {
-        return Step { state, next: 0 };
-    }
-    let length = word(bytes, at, 1) as usize;
-    let buffer = loaded(bytes, ahead(at, 2));
-    if length <= 16384 {
-        answers::counted(counts::count_commands(&buffer[..length]));
+        on_words(code, count, &buffer[..length], config);
     }
     behind(state, at, ahead(length, 2))
 }

@@ -1,10 +1,13 @@
-//! The examiner, step by step and whole, and the counts: codes 2, 3 and 8.
+//! The examiner, step by step, whole and as a walk, and the counts: codes 2, 3, 8 and 10.
 
 use super::{long, names, near, pool};
 use crate::coverage::Coverage;
+use crate::judge::{check, Verdict};
+use crate::past::Past;
 use crate::random::Random;
 use crate::script::{Call, Packer};
 use crate::sheet::{Sheet, SHEET_E};
+use crate::summary::Summary;
 use crate::word::{DESL, PD};
 
 /// What this suite must meet.
@@ -13,15 +16,19 @@ pub fn promised() -> Vec<String> {
     let mut promised = [
         names(2, &refusals),
         names(3, &refusals),
+        names(10, &refusals),
         names(2, &["pass", "refused 23", "refused 24"]),
         names(3, &["accepted"]),
         names(8, &["counts"]),
+        names(10, &["end", "refused 23"]),
     ]
     .concat();
     for number in 1..=12 {
         promised.push(format!("2 breach {number}"));
         promised.push(format!("3 breach {number}"));
+        promised.push(format!("10 breach {number}"));
     }
+    promised.push("walk over an unfinished pair".to_string());
     promised.extend(near::promised());
     promised
 }
@@ -32,14 +39,14 @@ pub fn cases(seed: u64, scale: u32, packer: &mut Packer, coverage: &mut Coverage
     unfit_sheets(&random, packer);
     for round in 0..scale {
         near::round(&random, round, coverage, &mut |coverage, sheet, words| {
-            judged(packer, coverage, sheet, words)
+            judged(&random, packer, coverage, sheet, words)
         });
     }
     for _ in 0..1000 * scale {
         let sheet = pool::sheet(&random);
         let words = near::random_words(&random);
-        judged(packer, coverage, &sheet, &words);
-        judged(packer, coverage, &sheet, &[]);
+        judged(&random, packer, coverage, &sheet, &words);
+        judged(&random, packer, coverage, &sheet, &[]);
     }
     for _ in 0..4 * scale {
         long::dense(&random, packer);
@@ -47,8 +54,15 @@ pub fn cases(seed: u64, scale: u32, packer: &mut Packer, coverage: &mut Coverage
     long::last_clock(packer);
 }
 
-/// Counts what a trace breaks, and has it judged step by step and whole, and counted.
-fn judged(packer: &mut Packer, coverage: &mut Coverage, sheet: &Sheet, words: &[u32]) {
+/// Counts what a trace breaks, and has it judged step by step, whole and by a walk, and counted. A
+/// second walk goes over its beginning.
+fn judged(
+    random: &Random,
+    packer: &mut Packer,
+    coverage: &mut Coverage,
+    sheet: &Sheet,
+    words: &[u32],
+) {
     near::count_broken(coverage, sheet, words);
     let mut calls = vec![pool::config(sheet)];
     calls.extend(steps(words));
@@ -59,7 +73,20 @@ fn judged(packer: &mut Packer, coverage: &mut Coverage, sheet: &Sheet, words: &[
     calls.push(Call::Step { count: 0, word: 0 });
     calls.push(Call::Check(words.to_vec()));
     calls.push(Call::Count(words.to_vec()));
+    calls.push(Call::Walk(words.to_vec()));
+    let beginning = &words[..random.below(words.len() as u32 + 1) as usize];
+    if check::<Summary>(sheet, beginning) == Ok(Verdict::Accepted) && unfinished(beginning) {
+        coverage.meet("walk over an unfinished pair");
+    }
+    calls.push(Call::Walk(beginning.to_vec()));
     packer.group(&calls);
+}
+
+/// Whether a trace ends with a pair open.
+fn unfinished(words: &[u32]) -> bool {
+    let mut past = Summary::fresh();
+    words.iter().for_each(|&word| past.push(word));
+    past.pair_open()
 }
 
 /// A trace as steps, equal words that stand together in one call.
@@ -96,6 +123,8 @@ fn unfit_sheets(random: &Random, packer: &mut Packer) {
             Call::Check(vec![]),
             Call::Check(vec![random.pick(&[0, DESL])]),
             Call::Count(vec![DESL, PD, PD]),
+            Call::Walk(vec![]),
+            Call::Walk(vec![random.pick(&[0, DESL])]),
         ]);
     }
 }

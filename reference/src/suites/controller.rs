@@ -1,5 +1,5 @@
-//! The controller: codes 4, 5 and 9. What is written is compared with the reference controller's
-//! and also held against the promises of demand 3.
+//! The controller: codes 4, 5 and 9, and at random 11 and 12 for 4 and 5. What is written is compared
+//! with the reference controller's and also held against the promises of demand 3.
 
 use super::{names, pool};
 use crate::coverage::Coverage;
@@ -15,14 +15,15 @@ const WAYS: u32 = 10;
 /// What this suite must meet.
 pub fn promised() -> Vec<String> {
     let refusals = ["refused 20", "refused 21", "refused 22"];
-    let mut promised = [
-        names(4, &refusals),
-        names(4, &["offered", "refused 26", "refused 27"]),
-        names(5, &refusals),
-        names(5, &["word", "clock", "refused 24"]),
-        names(9, &["waiting", "request"]),
-    ]
-    .concat();
+    let mut promised = names(9, &["waiting", "request"]);
+    for code in [4, 11] {
+        promised.extend(names(code, &refusals));
+        promised.extend(names(code, &["offered", "refused 26", "refused 27"]));
+    }
+    for code in [5, 12] {
+        promised.extend(names(code, &refusals));
+        promised.extend(names(code, &["word", "clock", "refused 24"]));
+    }
     promised.push("waiting shown as accepted and not yet carried".to_string());
     promised.push("first word before its bound by 8 to 31".to_string());
     promised.push("list ended".to_string());
@@ -43,6 +44,17 @@ pub fn cases(seed: u64, scale: u32, packer: &mut Packer, _coverage: &mut Coverag
         }
     }
     last_clock(&random, packer);
+}
+
+/// Sends a group of calls, each offer and tick by either form.
+fn send(random: &Random, packer: &mut Packer, calls: Vec<Call>) {
+    let either = |call| match call {
+        Call::Offer(numbers) if random.once_in(2) => Call::OfferLent(numbers),
+        Call::Tick(count) if random.once_in(2) => Call::TickLent(count),
+        other => other,
+    };
+    let calls: Vec<Call> = calls.into_iter().map(either).collect();
+    packer.group(&calls);
 }
 
 /// A request in range, of any bank among the given ones.
@@ -99,7 +111,7 @@ fn list(random: &Random, packer: &mut Packer, sheet: &Sheet, way: u32) {
     }
     calls.push(Call::Tick(0));
     calls.push(Call::Waiting);
-    packer.group(&calls);
+    send(random, packer, calls);
 }
 
 /// Offers until sixteen wait, and again after every few ticks.
@@ -196,15 +208,13 @@ fn unfit_sheets(random: &Random, packer: &mut Packer) {
     ] {
         let mut numbers = SHEET_E.numbers();
         numbers[field] = value;
-        packer.group(&[
-            Call::Config(numbers),
-            Call::Tick(0),
-            Call::Tick(3),
-            offer(random, &SHEET_E, &[0]),
-            unfit_offer(random, &SHEET_E),
-            Call::Waiting,
-            Call::Tick(0),
-        ]);
+        let mut calls = vec![Call::Config(numbers), Call::Tick(0), Call::Tick(3)];
+        for _ in 0..4 {
+            calls.push(offer(random, &SHEET_E, &[0]));
+            calls.push(unfit_offer(random, &SHEET_E));
+            calls.extend([Call::Waiting, Call::Tick(1), Call::Tick(0)]);
+        }
+        send(random, packer, calls);
     }
 }
 
@@ -220,15 +230,12 @@ fn last_clock(random: &Random, packer: &mut Packer) {
     }
     calls.push(unfit_offer(random, &SHEET_E));
     calls.extend([Call::Tick(1), Call::Tick(0), Call::Waiting]);
-    packer.group(&calls);
+    send(random, packer, calls);
 
     let sheet = pool::sheet(random);
-    packer.group(&[
-        pool::config(&sheet),
-        Call::Tick(u32::MAX),
-        Call::Tick(0),
-        Call::Waiting,
-    ]);
+    let mut calls = vec![pool::config(&sheet), Call::Tick(u32::MAX)];
+    calls.extend([Call::Tick(0), Call::Waiting]);
+    send(random, packer, calls);
 
     let sheet = pool::sheet(random);
     let mut calls = vec![pool::config(&sheet)];
@@ -237,5 +244,5 @@ fn last_clock(random: &Random, packer: &mut Packer) {
         calls.push(Call::Tick(random.below(20_000)));
     }
     calls.extend([Call::Tick(LONGEST), Call::Tick(0), Call::Waiting]);
-    packer.group(&calls);
+    send(random, packer, calls);
 }

@@ -54,12 +54,13 @@ pub fn quick_sheet(random: &Random) -> Sheet {
 pub fn dense(random: &Random, packer: &mut Packer) {
     let sheet = quick_sheet(random);
     let mut words = dense_words(random, &sheet, 8_000);
-    let whole = [Call::Check(words.clone()), Call::Count(words.clone())];
-    packer.group(&[pool::config(&sheet), whole[0].clone()]);
-    packer.group(&[pool::config(&sheet), whole[1].clone()]);
+    for call in [Call::Check, Call::Count, Call::Walk] {
+        packer.group(&[pool::config(&sheet), call(words.clone())]);
+    }
     let spoilt = words.len() - 1 - random.below(40) as usize;
     words[spoilt] ^= 1 << random.below(20);
-    packer.group(&[pool::config(&sheet), Call::Check(words)]);
+    packer.group(&[pool::config(&sheet), Call::Check(words.clone())]);
+    packer.group(&[pool::config(&sheet), Call::Walk(words)]);
 }
 
 /// The last clock: 24 there, for a good word and a bad one, and 23 ahead of it after a breach.

@@ -21,6 +21,9 @@ pub fn promised() -> Vec<String> {
         promised.extend(names(code, &[answer]));
     }
     promised.extend(names(9, &["waiting"]));
+    promised.extend(names(10, &["end"]));
+    promised.extend(names(11, &["offered"]));
+    promised.extend(names(12, &["clock"]));
     promised
 }
 
@@ -39,7 +42,7 @@ pub fn cases(seed: u64, scale: u32, packer: &mut Packer, coverage: &mut Coverage
         packer.raw(&bytes(&[&mixed[..], &[code, 5, 1]].concat()));
     }
     for count in [1, 2, 16_384, u32::MAX] {
-        for code in [3, 8] {
+        for code in [3, 8, 10] {
             packer.raw(&bytes(&[6, PD, PD, code, count]));
         }
     }
@@ -51,9 +54,10 @@ fn lengths(packer: &mut Packer) {
     let mut longest = vec![3, 16_382];
     longest.resize(16_384, DESL);
     packer.raw(&bytes(&longest));
-    let mut counted = longest.clone();
-    counted[0] = 8;
-    packer.raw(&bytes(&counted));
+    for code in [8, 10] {
+        longest[0] = code;
+        packer.raw(&bytes(&longest));
+    }
     longest.push(9);
     packer.raw(&bytes(&longest));
     packer.raw(&bytes(&longest)[..65_537]);
@@ -86,7 +90,7 @@ fn some_call(random: &Random, sheet: &Sheet) -> Call {
     let operation = pool::operation(random, &fit, kind, random.below(8));
     let (first, second) = pool::noisy(random, &fit, kind, &operation);
     let request = pool::request(random, &fit, random.once_in(2), random.below(9)).numbers();
-    match random.below(20) {
+    match random.below(21) {
         0 if random.once_in(6) => Call::Config([38, 4, 4, 16, 5000, 2, 3, 1, 7, 18]),
         0 => pool::config(&pool::sheet(random)),
         1..=3 => Call::Step {
@@ -99,13 +103,16 @@ fn some_call(random: &Random, sheet: &Sheet) -> Call {
         },
         5 => Call::Check(vec![DESL; random.below(20) as usize]),
         6 => Call::Check(vec![DESL, first, second, DESL]),
-        7..=9 => Call::Offer(request),
-        10..=12 => Call::Tick(random.below(150)),
+        7 => Call::Offer(request),
+        8..=9 => Call::OfferLent(request),
+        10 => Call::Tick(random.below(150)),
+        11..=12 => Call::TickLent(random.below(150)),
         13..=14 => Call::ReadPair(first, second),
         15 => Call::WritePair(PairNumbers::Access(request)),
         16 => Call::WritePair(PairNumbers::Regular(random.below(3))),
         17 => Call::WritePair(PairNumbers::Extended(random.below(66))),
         18 => Call::Count(vec![DESL, first, second, DESL]),
+        19 => Call::Walk([DESL, first, second, DESL][..random.below(5) as usize].to_vec()),
         _ => Call::Waiting,
     }
 }

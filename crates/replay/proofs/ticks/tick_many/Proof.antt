@@ -4,16 +4,16 @@ use Rattle.replay.proofs.ticks.tick_many.Statement.{statement}
 use Rattle.replay.proofs.ticks.tick_many.Tie as tie
 
 abbrev Inv-loop : tie.InvT-loop
-Inv-loop count now₀ left₀ now left = Unit {0}
+Inv-loop code count now₀ left₀ now left = Unit {0}
 
 abbrev μ-loop : tie.MeasureT-loop
-μ-loop count now₀ left₀ now left = left
+μ-loop code count now₀ left₀ now left = left
 
 loop-holds : tie.Need-loop-holds Inv-loop μ-loop
 loop-holds c = search needs
 
-tick-requires : tie.Need-tick-requires Inv-loop μ-loop
-tick-requires c κs = search needs
+tick-by-requires : tie.Need-tick-by-requires Inv-loop μ-loop
+tick-by-requires c κs = search needs
 
 accepted-requires : tie.Need-accepted-requires Inv-loop μ-loop
 accepted-requires c κs = search needs
@@ -43,7 +43,7 @@ tick-many-spec =
     Inv-loop
     μ-loop
     loop-holds
-    tick-requires
+    tick-by-requires
     accepted-requires
     returns
     word-requires

@@ -3,8 +3,8 @@ use mathlib.Core.Path.{sym}
 use native.Mathlib.Omega.{arith}
 use lib.Seq.{length-take-le}
 use borrow.Author.Needs.{needs}
-use Rattle.replay.proofs.traces.check.Statement.{statement}
-use Rattle.replay.proofs.traces.check.Tie as tie
+use Rattle.replay.proofs.traces.trace.Statement.{statement}
+use Rattle.replay.proofs.traces.trace.Tie as tie
 
 trace-fits-requires : tie.Need-trace-fits-requires
 trace-fits-requires c κs = search needs
@@ -14,6 +14,9 @@ returns c = search needs
 
 word-requires : tie.Need-word-requires
 word-requires c κs = search needs
+
+word-requires-2 : tie.Need-word-requires-2
+word-requires-2 c κs = search needs
 
 cast-length : tie.Need-cast-length
 cast-length c = search needs
@@ -27,14 +30,11 @@ loaded-requires c κs = search needs
 array-share-prefix-buffer : tie.Need-array-share-prefix-buffer
 array-share-prefix-buffer c = search needs
 
-slice-aggregate-check : tie.Need-slice-aggregate-check
-slice-aggregate-check c = sym (length-take-le (c .before .before .before .before .before .word .result) (c .before .before .before .loaded .result) (omega arith))
+slice-aggregate-on-words : tie.Need-slice-aggregate-on-words
+slice-aggregate-on-words c = sym (length-take-le (c .before .before .before .before .before .word2 .result) (c .before .before .before .loaded .result) (omega arith))
 
-check-requires : tie.Need-check-requires
-check-requires c κs = search needs
-
-checked-requires : tie.Need-checked-requires
-checked-requires c κs = search needs
+on-words-requires : tie.Need-on-words-requires
+on-words-requires c κs = search needs
 
 ahead-requires-2 : tie.Need-ahead-requires-2
 ahead-requires-2 c κs = search needs
@@ -45,20 +45,20 @@ behind-requires c κs = search needs
 returns-2 : tie.Need-returns-2
 returns-2 c = search needs
 
-pub check-spec : {M : Type 1} → statement M
-check-spec =
+pub trace-spec : {M : Type 1} → statement M
+trace-spec =
     tie.close
     (tie.spec
     trace-fits-requires
     returns
     word-requires
+    word-requires-2
     cast-length
     ahead-requires
     loaded-requires
     array-share-prefix-buffer
-    slice-aggregate-check
-    check-requires
-    checked-requires
+    slice-aggregate-on-words
+    on-words-requires
     ahead-requires-2
     behind-requires
     returns-2)

@@ -1,0 +1,33 @@
+//! A walk over a trace: the examiner beside the words, of which each move takes the next.
+
+use crate::checker::{Checker, Step};
+use crate::past::Past;
+use crate::sheet::Sheet;
+
+/// The words, and the examiner at the clock of the next of them.
+pub struct Walk<'a, P> {
+    words: &'a [u32],
+    pub checker: Checker<P>,
+}
+
+/// What a move comes to; none where no word is left.
+pub type Move = Option<Step>;
+
+impl<'a, P: Past> Walk<'a, P> {
+    /// A walk before the first word; making one refuses nothing.
+    pub fn fresh(sheet: Sheet, words: &'a [u32]) -> Walk<'a, P> {
+        Walk {
+            words,
+            checker: Checker::fresh(sheet),
+        }
+    }
+
+    /// Examines one more word: the sheet's refusals, then the end, then what a step says.
+    pub fn advance(&mut self) -> Move {
+        if let Some(number) = self.checker.sheet.refusal() {
+            return Some(Step::Refused(number));
+        }
+        let next = self.words.get(self.checker.past.clock() as usize)?;
+        Some(self.checker.step(*next))
+    }
+}
