@@ -5,6 +5,10 @@
 #include <stddef.h>
 #include <stdint.h>
 
+#ifdef __cplusplus
+extern "C" {
+#endif
+
 /*
  * Checks a trace on the sheet that the ten numbers make.
  *
@@ -18,5 +22,9 @@
  */
 uint32_t fcram_check(uint32_t grade, uint32_t cl, uint32_t bl, uint32_t organisation, uint32_t period, uint32_t rbd, uint32_t rwd,
                      uint32_t wrd, uint32_t rsc, uint32_t refc, const uint8_t *trace, size_t length);
+
+#ifdef __cplusplus
+}
+#endif
 
 #endif
