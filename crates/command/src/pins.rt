@@ -40,7 +40,7 @@ pub fn bit(high: bool) -> u32
 }
 
 // n where the test holds, and otherwise 0.
-pub fn kept(test: bool, n: u32) -> u32
+pub(crate) fn kept(test: bool, n: u32) -> u32
     ensures { λ r. ⌜ (r ≡ cond test n 0) × (r ≤ n) ⌝ }
 {
     if test { n } else { 0 }
