@@ -1,3 +1,2 @@
--- Lists of calls, by value and on a borrowed controller; and a walk over words.
+-- Lists of calls, by value and on a borrowed controller.
 pub mod EitherForm
-pub mod Walk

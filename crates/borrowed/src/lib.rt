@@ -1,6 +1,5 @@
-// Calls on what the caller lends, which finds it changed in place.
+// Calls on a controller that the caller lends, which finds it changed in place.
 mod calls;
-pub mod cursor;
 
 pub use calls::Given;
 pub use calls::offer;

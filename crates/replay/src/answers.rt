@@ -1,5 +1,4 @@
 // The lines that answers are written as.
-use borrowed::cursor::Progress;
 use command::Operation;
 use command::ReadAnswer;
 use command::Request;
@@ -9,6 +8,7 @@ use config::TimingAnswer;
 use controller::CallAnswer;
 use controller::Controller;
 use counts::CountsAnswer;
+use cursor::Progress;
 use libc::STDOUT_FILENO;
 use protocol::Breach;
 use protocol::Verdict;

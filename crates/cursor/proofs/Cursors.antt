@@ -36,15 +36,15 @@ use Rattle.config.proofs.Config.Laws as F′
 use Rattle.protocol.specs.declared.checker.Checker.{Checker}
 use Rattle.protocol.proofs.checker.Checker as K
 use Rattle.protocol.proofs.checker.Checker.Laws as K′
-use Rattle.borrowed.specs.declared.cursor.TraceCursor.{TraceCursor}
-use Rattle.borrowed.specs.declared.cursor.Moved.{Moved}
-use Rattle.borrowed.specs.declared.cursor.Progress.{Progress}
-use Rattle.borrowed.proofs.cursor.TraceCursor as T
-use Rattle.borrowed.proofs.cursor.TraceCursor.Laws as T′
-use Rattle.borrowed.proofs.cursor.Moved as N
-use Rattle.borrowed.proofs.cursor.Moved.Laws as N′
-use Rattle.borrowed.proofs.cursor.Progress as P
-use Rattle.borrowed.proofs.cursor.Progress.Laws as P′
+use Rattle.cursor.specs.declared.TraceCursor.{TraceCursor}
+use Rattle.cursor.specs.declared.Moved.{Moved}
+use Rattle.cursor.specs.declared.Progress.{Progress}
+use Rattle.cursor.proofs.TraceCursor as T
+use Rattle.cursor.proofs.TraceCursor.Laws as T′
+use Rattle.cursor.proofs.Moved as N
+use Rattle.cursor.proofs.Moved.Laws as N′
+use Rattle.cursor.proofs.Progress as P
+use Rattle.cursor.proofs.Progress.Laws as P′
 
 -- ---- the types and the machine values. What the struct owns does not say its lifetime's name, so it is named as `advance` does
 abbrev pub α : Lft → NamedLft

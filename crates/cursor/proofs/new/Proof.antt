@@ -45,13 +45,13 @@ use Rattle.protocol.proofs.checker.Checker.fresh as fresh-fn
 use Rattle.protocol.proofs.checker.Checker.fresh.Symbol as fresh-def
 use Rattle.protocol.proofs.checker.Checker.fresh.Symbol.{name as #fresh}
 use Rattle.protocol.proofs.checker.Checker.fresh.Met as fresh-thm
-use Rattle.borrowed.specs.declared.cursor.TraceCursor.{TraceCursor}
+use Rattle.cursor.specs.declared.TraceCursor.{TraceCursor}
 use Rattle.borrowed.proofs.Behind.{reached}
-use Rattle.borrowed.proofs.Cursors.{Words, Both, kept, wordsVal, configVal, config-made, config-typed, words-typed, checker-typed, cursor-typed}
-use Rattle.borrowed.proofs.cursor.new.Key.{name as #new}
-use Rattle.borrowed.proofs.cursor.new as new
-use Rattle.borrowed.proofs.cursor.new.Statement as stated
-use Rattle.borrowed.proofs.cursor.new.Code as code
+use Rattle.cursor.proofs.Cursors.{Words, Both, kept, wordsVal, configVal, config-made, config-typed, words-typed, checker-typed, cursor-typed}
+use Rattle.cursor.proofs.new.Key.{name as #new}
+use Rattle.cursor.proofs.new as new
+use Rattle.cursor.proofs.new.Statement as stated
+use Rattle.cursor.proofs.new.Code as code
 
 abbrev stayed : Stays (new.ended .signature .params) (new.ended .kept)
 stayed = (stay-none-slice (0 ∷ []) tt (plain (λ _. u32)) yes, (stay-none (λ _. F.the-row) yes, tt))

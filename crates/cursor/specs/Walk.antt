@@ -13,9 +13,9 @@ use Rattle.config.specs.declared.Timing.{Timing}
 use Rattle.rules.specs.Verdict.{Judgement, accepted, breach, judge}
 use Rattle.protocol.specs.Steps.{Step, fresh, clockFits, judged, stepOf}
 use Rattle.protocol.specs.declared.checker.Checker.{Checker}
-use Rattle.borrowed.specs.declared.cursor.Moved.{Moved}
-use Rattle.borrowed.specs.declared.cursor.Progress.{Progress}
-use Rattle.borrowed.specs.declared.cursor.Progress.the-variants.{Passed, InBreach, Refused, End}
+use Rattle.cursor.specs.declared.Moved.{Moved}
+use Rattle.cursor.specs.declared.Progress.{Progress}
+use Rattle.cursor.specs.declared.Progress.the-variants.{Passed, InBreach, Refused, End}
 
 -- what an advance reaches: its word passed, it breached (clock and number), or no word was left
 pub data Reached : Type 0 where

@@ -2,8 +2,8 @@
 use native.Mathlib.Omega.{arith}
 use borrow.Author.Tests.{le-ltb}
 use borrow.Author.Needs.{needs}
-use Rattle.borrowed.proofs.cursor.at_end.Statement.{statement}
-use Rattle.borrowed.proofs.cursor.at_end.Tie as tie
+use Rattle.cursor.proofs.at_end.Statement.{statement}
+use Rattle.cursor.proofs.at_end.Tie as tie
 
 timing-requires : tie.Need-timing-requires
 timing-requires c κs = search needs

@@ -21,7 +21,7 @@ use Rattle.protocol.specs.Steps.{Step, fresh, clockFits, judged, refusing, step
 use Rattle.protocol.specs.Refinement.{follow, stepping, afterAll}
 use Rattle.protocol.specs.declared.checker.Checker.{Checker}
 use Rattle.protocol.proofs.Refinement.{refinement}
-use Rattle.borrowed.specs.Walk.{Reached, ended, Move, staying, ofWord, examined, moveBy, moveOf, advanced, unless, walking, stopOf, Call, step, advance, afterCalls, Walk}
+use Rattle.cursor.specs.Walk.{Reached, ended, Move, staying, ofWord, examined, moveBy, moveOf, advanced, unless, walking, stopOf, Call, step, advance, afterCalls, Walk}
 
 -- an advance with a word left is a step on that word
 pub is-step : (o : Outcome Timing) (s : Checker) (ws : List ℕ) → s .clock < length ws → moveBy o s ws ≡ examined (stepBy o s (getD ws (s .clock) 0))

@@ -2,9 +2,9 @@
 use borrow.Author.Needs.{needs}
 use denote.Ref.{now}
 use Rattle.config.specs.Configuration.{timingOf}
-use Rattle.borrowed.proofs.Walk.{is-step, is-end}
-use Rattle.borrowed.proofs.cursor.next_word.Statement.{statement}
-use Rattle.borrowed.proofs.cursor.next_word.Tie as tie
+use Rattle.cursor.proofs.Walk.{is-step, is-end}
+use Rattle.cursor.proofs.next_word.Statement.{statement}
+use Rattle.cursor.proofs.next_word.Tie as tie
 
 cast-at : tie.Need-cast-at
 cast-at c = search needs

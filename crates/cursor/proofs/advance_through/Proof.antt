@@ -44,29 +44,29 @@ use Rattle.protocol.specs.Steps.{fresh}
 use Rattle.protocol.specs.declared.checker.Checker.{Checker}
 use Rattle.protocol.proofs.checker.Checker as K
 use Rattle.protocol.proofs.checker.Checker.Laws as K′
-use Rattle.borrowed.specs.Walk.{moved, moveOf}
-use Rattle.borrowed.specs.declared.cursor.TraceCursor.{TraceCursor}
-use Rattle.borrowed.specs.declared.cursor.Progress.{Progress}
+use Rattle.cursor.specs.Walk.{moved, moveOf}
+use Rattle.cursor.specs.declared.TraceCursor.{TraceCursor}
+use Rattle.cursor.specs.declared.Progress.{Progress}
 use Rattle.borrowed.proofs.Behind.{read, reached}
-use Rattle.borrowed.proofs.Cursors.{D, L, Cursor, Words, Both, kept, both, changed, wordsVal, configVal, checkerVal, cursorVal, movedVal, answered}
-use Rattle.borrowed.proofs.Cursors.{checker-is, answer-is, moved-made, words-typed, checker-typed, progress-typed, moved-typed, cursor-typed}
+use Rattle.cursor.proofs.Cursors.{D, L, Cursor, Words, Both, kept, both, changed, wordsVal, configVal, checkerVal, cursorVal, movedVal, answered}
+use Rattle.cursor.proofs.Cursors.{checker-is, answer-is, moved-made, words-typed, checker-typed, progress-typed, moved-typed, cursor-typed}
 use Rattle.borrowed.proofs.Lending.{Ref, lent, returned, regained}
-use Rattle.borrowed.proofs.cursor.TraceCursor as T
-use Rattle.borrowed.proofs.cursor.TraceCursor.Laws as T′
-use Rattle.borrowed.proofs.cursor.Moved as N
-use Rattle.borrowed.proofs.cursor.Progress as P
-use Rattle.borrowed.proofs.cursor.new as new
-use Rattle.borrowed.proofs.cursor.new.Symbol as new-def
-use Rattle.borrowed.proofs.cursor.new.Symbol.{name as #new}
-use Rattle.borrowed.proofs.cursor.new.Met as new-thm
-use Rattle.borrowed.proofs.cursor.advance as advance
-use Rattle.borrowed.proofs.cursor.advance.Symbol as advance-def
-use Rattle.borrowed.proofs.cursor.advance.Symbol.{name as #advance}
-use Rattle.borrowed.proofs.cursor.advance.Met as advance-thm
-use Rattle.borrowed.proofs.cursor.advance_through.Key.{name as #through}
-use Rattle.borrowed.proofs.cursor.advance_through as through
-use Rattle.borrowed.proofs.cursor.advance_through.Statement as stated
-use Rattle.borrowed.proofs.cursor.advance_through.Code as code
+use Rattle.cursor.proofs.TraceCursor as T
+use Rattle.cursor.proofs.TraceCursor.Laws as T′
+use Rattle.cursor.proofs.Moved as N
+use Rattle.cursor.proofs.Progress as P
+use Rattle.cursor.proofs.new as new
+use Rattle.cursor.proofs.new.Symbol as new-def
+use Rattle.cursor.proofs.new.Symbol.{name as #new}
+use Rattle.cursor.proofs.new.Met as new-thm
+use Rattle.cursor.proofs.advance as advance
+use Rattle.cursor.proofs.advance.Symbol as advance-def
+use Rattle.cursor.proofs.advance.Symbol.{name as #advance}
+use Rattle.cursor.proofs.advance.Met as advance-thm
+use Rattle.cursor.proofs.advance_through.Key.{name as #through}
+use Rattle.cursor.proofs.advance_through as through
+use Rattle.cursor.proofs.advance_through.Statement as stated
+use Rattle.cursor.proofs.advance_through.Code as code
 
 abbrev stayed : Stays (through.ended .signature .params) (through.ended .kept)
 stayed = (stay-none-slice (0 ∷ []) tt (plain (λ _. u32)) yes, (stay-none (λ _. K.the-row) yes, tt))
@@ -188,9 +188,9 @@ pub advance-through-spec : {M : Type 1} → stated.statement M
 unfolding code.routine
 advance-through-spec 𝓤 H 𝓜 𝓖 𝓡 =
     let W = givenOf 𝓤 H 𝓜 𝓖 in
-    let known-new = cited 𝓤 H (New 𝓤 H (𝓖 .A) (𝓜 .mem) (𝓡 .run)) 𝓜 𝓡 code.env #new new-def.routine code.calls-borrowed·cursor·new (new-thm.met 𝓤 H 𝓜 𝓖 𝓡) in
+    let known-new = cited 𝓤 H (New 𝓤 H (𝓖 .A) (𝓜 .mem) (𝓡 .run)) 𝓜 𝓡 code.env #new new-def.routine code.calls-cursor·new (new-thm.met 𝓤 H 𝓜 𝓖 𝓡) in
     let known-advance = cited 𝓤 H (Advance 𝓤 H (𝓖 .A) (𝓜 .mem) (𝓡 .run)) 𝓜 𝓡 code.env #advance advance-def.routine
-    code.calls-borrowed·cursor·advance (advance-thm.met 𝓤 H 𝓜 𝓖 𝓡) in
+    code.calls-cursor·advance (advance-thm.met 𝓤 H 𝓜 𝓖 𝓡) in
     reached 𝓤 H 𝓜 𝓖 𝓡 through.ended code.env stayed
     (goes-none-slice 𝓤 H (𝓖 .A) W 1 (0 ∷ []) tt (plain (λ _. u32)) yes, (goes-none 𝓤 H (𝓖 .A) W 1 (λ _. K.the-row) yes (λ κs x f. refl), tt))
     (through.clauses 𝓤 H (𝓖 .A) (𝓜 .mem) (𝓡 .run)) #through code.function (code.unfolded 𝓤 H 𝓜 𝓡)

@@ -9,7 +9,7 @@ use protocol::clock_fits;
 ghost use mathlib.Core.Path.{_≡_};
 ghost use mathlib.Core.List.{[]};
 ghost use Rattle.protocol.specs.Steps.{fresh, verdictOutcome};
-ghost use Rattle.borrowed.specs.Walk.{progressOutcome, moved, ofWord, moveOf};
+ghost use Rattle.cursor.specs.Walk.{progressOutcome, moved, ofWord, moveOf};
 
 // The words stay the caller's; the clock that the walk has reached is the checker's.
 pub struct TraceCursor<'a> {

@@ -41,25 +41,25 @@ use denote.Triple.Table.{cited}
 use denote.Triple.Walked.{says, Stays, stay-ref, walkOf, goes-ref, ends-at}
 use denote.Triple.Clauses.{ensured, lasts}
 use Rattle.protocol.proofs.checker.Checker as K
-use Rattle.borrowed.specs.Walk.{moved, moveOf}
-use Rattle.borrowed.specs.declared.cursor.TraceCursor.{TraceCursor}
-use Rattle.borrowed.specs.declared.cursor.Moved.{Moved}
+use Rattle.cursor.specs.Walk.{moved, moveOf}
+use Rattle.cursor.specs.declared.TraceCursor.{TraceCursor}
+use Rattle.cursor.specs.declared.Moved.{Moved}
 use Rattle.borrowed.proofs.Behind.{reached}
-use Rattle.borrowed.proofs.Cursors.{α, D, L, Cursor, with-checker, changed, wordsVal, checkerVal, cursorVal, checker-is, progress-made, checker-typed, progress-typed, moved-typed, cursor-typed}
-use Rattle.borrowed.proofs.cursor.TraceCursor as T
-use Rattle.borrowed.proofs.cursor.TraceCursor.Laws as T′
-use Rattle.borrowed.proofs.cursor.Moved as N
-use Rattle.borrowed.proofs.cursor.Moved.Laws as N′
-use Rattle.borrowed.proofs.cursor.Progress as P
-use Rattle.borrowed.proofs.cursor.Progress.Laws as P′
-use Rattle.borrowed.proofs.cursor.next_word as next
-use Rattle.borrowed.proofs.cursor.next_word.Symbol as next-def
-use Rattle.borrowed.proofs.cursor.next_word.Symbol.{name as #next}
-use Rattle.borrowed.proofs.cursor.next_word.Met as next-thm
-use Rattle.borrowed.proofs.cursor.advance.Key.{name as #advance}
-use Rattle.borrowed.proofs.cursor.advance as advance
-use Rattle.borrowed.proofs.cursor.advance.Statement as stated
-use Rattle.borrowed.proofs.cursor.advance.Code as code
+use Rattle.cursor.proofs.Cursors.{α, D, L, Cursor, with-checker, changed, wordsVal, checkerVal, cursorVal, checker-is, progress-made, checker-typed, progress-typed, moved-typed, cursor-typed}
+use Rattle.cursor.proofs.TraceCursor as T
+use Rattle.cursor.proofs.TraceCursor.Laws as T′
+use Rattle.cursor.proofs.Moved as N
+use Rattle.cursor.proofs.Moved.Laws as N′
+use Rattle.cursor.proofs.Progress as P
+use Rattle.cursor.proofs.Progress.Laws as P′
+use Rattle.cursor.proofs.next_word as next
+use Rattle.cursor.proofs.next_word.Symbol as next-def
+use Rattle.cursor.proofs.next_word.Symbol.{name as #next}
+use Rattle.cursor.proofs.next_word.Met as next-thm
+use Rattle.cursor.proofs.advance.Key.{name as #advance}
+use Rattle.cursor.proofs.advance as advance
+use Rattle.cursor.proofs.advance.Statement as stated
+use Rattle.cursor.proofs.advance.Code as code
 
 -- `TraceCursor<'a>`, as the referent's place in the signature
 abbrev behind : Slot 2
@@ -165,7 +165,7 @@ unfolding code.routine
 advance-spec 𝓤 H 𝓜 𝓖 𝓡 =
     let W = givenOf 𝓤 H 𝓜 𝓖 in
     let known = cited 𝓤 H (NextWord 𝓤 H (𝓖 .A) (𝓜 .mem) (𝓡 .run)) 𝓜 𝓡 code.env #next next-def.routine
-    code.calls-borrowed·cursor·next-word (next-thm.met 𝓤 H 𝓜 𝓖 𝓡) in
+    code.calls-cursor·next-word (next-thm.met 𝓤 H 𝓜 𝓖 𝓡) in
     reached 𝓤 H 𝓜 𝓖 𝓡 advance.ended code.env stayed (goes-ref 𝓤 H (𝓖 .A) W 2 0 tt behind, tt)
     (advance.clauses 𝓤 H (𝓖 .A) (𝓜 .mem) (𝓡 .run)) #advance code.function (code.unfolded 𝓤 H 𝓜 𝓡)
     (λ κs. (ptr-vals, tt)) (λ κs. (mut-tells (named 0) (κs .0) (Cursor (κs .1 .0)), tt))

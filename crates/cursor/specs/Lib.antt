@@ -1,0 +1,2 @@
+-- What an advance of a cursor does, and a whole walk beside the published verdict.
+pub mod Walk
