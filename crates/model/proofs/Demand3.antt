@@ -5,8 +5,7 @@ use mathlib.Core.Bool.{Bool, true, false, cond, false≢true}
 use mathlib.Core.List.{List, [], _∷_, _++_, map}
 use native.Mathlib.Omega.{arith}
 use borrow.Author.Tests.{ltb-true, ltb-false}
-use lib.ListN.{length, getD, replicate}
-use lib.Seq.{take-append-seam}
+use lib.ListN.{length, getD}
 use lib.Dec.{ltb}
 use Rattle.config.specs.Outcome.{Outcome, value, refused, require}
 use Rattle.config.specs.Configuration.{timingOf}
@@ -17,7 +16,7 @@ use Rattle.config.proofs.Accepted.{accepted, config-19}
 use Rattle.command.specs.Writing.{requestFits}
 use Rattle.command.specs.declared.operation.Request.{Request}
 use Rattle.model.specs.Laid as laid
-use Rattle.controller.specs.States.{vacant, fresh}
+use Rattle.controller.specs.States.{fresh}
 use Rattle.controller.specs.Steps.{held, joined, notOffered, offerOf, tickOf}
 use Rattle.model.specs.Runs.{Call, offer, tick, Accepted, Run, called, runFrom, run, Prescribed, prescribed, pairsOf, requestsOf, firstWords, latestStart}
 use Rattle.model.specs.Demand3.{Holds, Demand3}
@@ -26,7 +25,7 @@ use Rattle.controller.specs.declared.OpenPair.the-variants.{Nothing}
 use Rattle.model.proofs.Figures.{Figures, figures}
 use Rattle.model.proofs.Fulfilled.{Met, met-at}
 use Rattle.model.proofs.Going.{firstsOf, start-goes, none-passed}
-use Rattle.model.proofs.Represents.{offer-is, tick-represents, tick-ends}
+use Rattle.model.proofs.Represents.{held-is, offer-is, tick-represents, tick-ends}
 use Rattle.model.proofs.Runs.{closingBound, Kept, all-kept}
 
 module _ (c : Config) (t : Timing) (is : timingOf c ≡ value t) (f : Figures t) where
@@ -47,7 +46,7 @@ module _ (c : Config) (t : Timing) (is : timingOf c ≡ value t) (f : Figures t)
 
   module _ (r : Run) (k : Prescribed) (h : Kept c t is f r k) where
     is-held : held (r .controller) ≡ k .course .waiting
-    is-held = ap held (h .represents .state) ∙ take-append-seam (k .course .waiting) (replicate (h .represents .spare) vacant)
+    is-held = held-is c t is f (r .controller) (k .course) (h .represents)
 
     pairs-are : pairsOf (r .words) ≡ k .course .past .pairs
     pairs-are = ap pairsOf (h .words) ∙ sym (ap (λ p. p .pairs) (h .past))

@@ -26,7 +26,7 @@ use Rattle.protocol.proofs.Kept.{fits}
 use Rattle.model.specs.Laid.{Course}
 use Rattle.model.specs.Laid as laid
 use Rattle.controller.specs.States.{vacant}
-use Rattle.controller.specs.Steps.{Offer, allFit, wordsOf, ofOldest, stateFits, joined, notOffered, offerOf, nextPair, passes, notTicked, tickOf}
+use Rattle.controller.specs.Steps.{Offer, held, allFit, wordsOf, ofOldest, stateFits, joined, notOffered, offerOf, nextPair, passes, notTicked, tickOf}
 use Rattle.model.specs.Runs.{requestOf, isAccess, accessOpen}
 use Rattle.controller.specs.declared.Controller.{Controller}
 use Rattle.controller.specs.declared.OpenPair.{OpenPair}
@@ -126,6 +126,9 @@ module _ (c : Config) (t : Timing) (is : timingOf c ≡ value t) (f : Figures t)
     pub room : length (x .waiting) + spare ≡ 16
     pub operation : operationIn opened (front (x .waiting)) ≡ x .opened
     pub of-waiting : OfWaiting opened (x .waiting)
+
+  pub held-is : (s : Controller) (x : Course) → Represents s x → held s ≡ x .waiting
+  held-is s x r = ap held (r .state) ∙ take-append-seam (x .waiting) (replicate (r .spare) vacant)
 
   -- the state is one that calls make, so 19 has no ground
   state-fits : (x : Course) (Bs : List ℕ) (p : OpenPair) (n : ℕ) → Going t f x Bs → x .past .clock ≤ 16777216 → length (x .waiting) + n ≡ 16

@@ -6,8 +6,7 @@ use mathlib.Core.List.{List, [], _∷_, _++_, map, map-append, append-nil, appen
 use mathlib.Core.Option.{Option, none, some}
 use native.Mathlib.Omega.{arith}
 use borrow.Author.Tests.{lt-ltb, ltb-true, ltb-false}
-use lib.ListN.{length, length-append, replicate}
-use lib.Seq.{take-append-seam}
+use lib.ListN.{length, length-append}
 use lib.Dec.{ltb}
 use Rattle.config.specs.Outcome.{value}
 use Rattle.config.specs.Configuration.{timingOf}
@@ -21,14 +20,13 @@ use Rattle.rules.specs.Rules.{breachAt}
 use Rattle.rules.specs.Verdict.{Judgement, accepted, breach, lead, judgeFrom, judge}
 use Rattle.rules.proofs.Words.{past-append, clock-is}
 use Rattle.model.specs.Laid as laid
-use Rattle.controller.specs.States.{vacant}
 use Rattle.controller.specs.Steps.{held, offerOf}
 use Rattle.model.specs.Runs.{Call, offer, tick, Accepted, Run, called, Prescribed, followed, ifAccepted, requestsOf, runFrom, prescribedFrom}
 use Rattle.model.proofs.Figures.{Figures}
 use Rattle.model.proofs.Fulfilled.{Met, one-asked}
 use Rattle.model.proofs.Unopened.{bound}
 use Rattle.model.proofs.Going.{firstsOf, Going, tick-goes, offer-goes}
-use Rattle.model.proofs.Represents.{Represents, refusing, offer-is, offer-represents, tick-represents, tick-ends}
+use Rattle.model.proofs.Represents.{Represents, held-is, refusing, offer-is, offer-represents, tick-represents, tick-ends}
 
 abbrev Passed : Judgement → Type 0
 Passed accepted = Unit {0}
@@ -115,7 +113,7 @@ module _ (c : Config) (t : Timing) (is : timingOf c ≡ value t) (f : Figures t)
       let x = k .course in
       let at = h .clock in
       let low = h .limit in
-      let is-held : held s ≡ x .waiting = ap held (h .represents .state) ∙ take-append-seam (x .waiting) (replicate (h .represents .spare) vacant) in
+      let is-held = held-is c t is f s x (h .represents) in
       let a : Accepted = record { request = q; ticks = length (r .words); ahead = length (held s) } in
       let at-bound : closingBound t a ≡ bound t (x .past .clock) (length (x .waiting)) = rw (h .words, is-held, at) in
       rw (offer-is c t is f s x (h .bounds) q (h .represents) (h .going) (omega arith), fits, lt-ltb (length (x .waiting)) 16 few)

@@ -12,7 +12,6 @@ use Rattle.config.specs.declared.Timing.{Timing}
 use Rattle.command.specs.Pins.{high}
 use Rattle.command.specs.Reading.{rda, lal, modeBy, accessOf, operationOf, soundPair}
 use Rattle.command.specs.Writing.{pairOf}
-use Rattle.command.specs.declared.operation.Request.{Request}
 use Rattle.command.specs.declared.operation.Operation.{Operation}
 use Rattle.command.specs.declared.operation.Operation.the-variants.{Access, Regular, Extended, Refresh}
 use Rattle.roundtrip.proofs.WrittenBack.{written-back}
@@ -20,7 +19,7 @@ use Rattle.rules.specs.History.{ClosedPair, Past}
 use Rattle.rules.proofs.Summary.{summary}
 use Rattle.rules.proofs.Words.{breach-is}
 use Rattle.rules.proofs.Newest.{Ordered}
-use Rattle.model.specs.Laid.{candidate, breachless, opening}
+use Rattle.model.specs.Laid.{breachless, opening}
 use Rattle.model.proofs.Figures.{Figures}
 use Rattle.model.proofs.Spacings.{mode-closes}
 use Rattle.model.proofs.Turn.{pairAt, idle, refresh-opens}
@@ -76,10 +75,6 @@ module _ (t : Timing) (f : Figures t) where
 
   pub pins : RegularPins 0xA0000 mrs
   pins = regular-pins t 0xA0000 mrs false (written .1)
-
-  -- at clock 0
-  pub begin-turn : (rs : List Request) → opening t (idle 0 []) (candidate t (idle 0 []) rs) ≡ some (Extended 0)
-  begin-turn rs = refl
 
   -- a regular mode
   pub regular-turn : (k : ℕ) → 2 ≤ k → Waits t (idle k (extended ∷ [])) (Regular false) k (t .rsc)
