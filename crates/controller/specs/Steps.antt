@@ -151,6 +151,10 @@ starting t s =
           };
     }
 
+-- the oldest of the first n has left: each other of them is one place further on, and the last of their places is vacant
+abbrev pub movedUp : ℕ → List Request → List Request
+movedUp n rs = take (n - 1) (drop 1 rs) ++ (vacant ∷ drop n rs)
+
 -- one with a pair open: "the closing word". "A request waits until its closing word is out."
 abbrev pub closing : Timing → Controller → Tick
 closing t s =
@@ -164,7 +168,7 @@ closing t s =
             clock = s .clock + 1;
             opened = Nothing;
             stamps = remembered (s .stamps) (s .clock) (w .first) (w .second);
-            waiting = cond (ofOldest (s .opened)) (drop 1 (s .waiting) ++ (vacant ∷ [])) (s .waiting);
+            waiting = cond (ofOldest (s .opened)) (movedUp (s .count) (s .waiting)) (s .waiting);
             count = cond (ofOldest (s .opened)) (s .count - 1) (s .count);
           };
     }

@@ -54,6 +54,7 @@ fn closing(timing: Timing, controller: Controller) -> Ticked
     let stamps = controller.stamps;
     let waiting = controller.waiting;
     let clock = controller.clock;
+    let count = controller.count;
     let words = words_of(timing, opened, waiting[0]);
     let leaves = of_oldest(opened);
     Ticked {
@@ -64,8 +65,8 @@ fn closing(timing: Timing, controller: Controller) -> Ticked
             clock: clock + 1,
             opened: OpenPair::Nothing,
             stamps: stamps.remembered(clock, words.first, words.second),
-            waiting: requests_left(leaves, waiting),
-            count: count_left(leaves, controller.count),
+            waiting: requests_left(leaves, waiting, count),
+            count: count_left(leaves, count),
         },
     }
 }

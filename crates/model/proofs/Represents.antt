@@ -6,8 +6,8 @@ use mathlib.Core.List.{List, [], _∷_, _++_, append-assoc}
 use mathlib.Core.Option.{Option, none, some}
 use native.Mathlib.Omega.{arith}
 use borrow.Author.Tests.{lt-ltb, le-ltb, le-leb, ne-eqb}
-use lib.ListN.{length, length-append, drop, replicate}
-use lib.Seq.{take-append-seam, set-append-seam}
+use lib.ListN.{length, length-append, replicate}
+use lib.Seq.{take-append-seam, drop-append-seam, set-append-seam}
 use lib.Dec.{eqb, ltb}
 use Rattle.config.specs.Outcome.{value}
 use Rattle.config.specs.Configuration.{timingOf}
@@ -26,7 +26,7 @@ use Rattle.protocol.proofs.Kept.{fits}
 use Rattle.model.specs.Laid.{Course}
 use Rattle.model.specs.Laid as laid
 use Rattle.controller.specs.States.{vacant}
-use Rattle.controller.specs.Steps.{Offer, held, allFit, wordsOf, ofOldest, stateFits, joined, notOffered, offerOf, nextPair, passes, notTicked, tickOf}
+use Rattle.controller.specs.Steps.{Offer, held, allFit, wordsOf, ofOldest, stateFits, joined, notOffered, offerOf, nextPair, passes, movedUp, notTicked, tickOf}
 use Rattle.model.specs.Runs.{requestOf, isAccess, accessOpen}
 use Rattle.controller.specs.declared.Controller.{Controller}
 use Rattle.controller.specs.declared.OpenPair.{OpenPair}
@@ -96,22 +96,19 @@ due-waiting t rs (some Refreshing) d e = absurd (false≢true e)
 abbrev places : List Request → ℕ → List Request
 places rs n = rs ++ replicate n vacant
 
-one-vacant : (n : ℕ) → replicate n vacant ++ (vacant ∷ []) ≡ replicate (suc n) vacant
-one-vacant zero = refl
-one-vacant (suc n) = ap (λ rs. vacant ∷ rs) (one-vacant n)
-
 record Left (o : Operation) (qs : List Request) (spare : ℕ) : Type 0 where
   vacancies : ℕ
-  queue : cond (isAccess o) (drop 1 (places (requestOf o ++ qs) spare) ++ (vacant ∷ [])) (places (requestOf o ++ qs) spare) ≡ places qs vacancies
+  queue : cond (isAccess o) (movedUp (length (requestOf o ++ qs)) (places (requestOf o ++ qs) spare)) (places (requestOf o ++ qs) spare) ≡ places qs vacancies
   count : cond (isAccess o) (length (requestOf o ++ qs) - 1) (length (requestOf o ++ qs)) ≡ length qs
   total : length qs + vacancies ≡ 16
 
 left : (o : Operation) (qs : List Request) (spare : ℕ) → length (requestOf o ++ qs) + spare ≡ 16 → Left o qs spare
 left (Access r) qs spare h =
+    let others : length (r ∷ qs) - 1 ≡ length qs = omega arith in
     record {
       vacancies = suc spare;
-      queue = append-assoc qs (replicate spare vacant) (vacant ∷ []) ∙ ap (λ rs. qs ++ rs) (one-vacant spare);
-      count = omega arith;
+      queue = rw (others, take-append-seam qs (replicate spare vacant), drop-append-seam qs (replicate spare vacant));
+      count = others;
       total = omega arith;
     }
 left (RegularMode a3) qs spare h = record { vacancies = spare; queue = refl; count = refl; total = h }

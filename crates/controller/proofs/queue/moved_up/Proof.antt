@@ -1,22 +1,24 @@
--- The invariant: as many as were passed have moved up, and the other places are vacant. Assumes nothing.
-use Prim.Native.Nat.{suc, _+_, _-_, _≤_}
+-- The invariant: as many as were passed have moved up, and the places from there on are as they were. Assumes nothing.
+use Prim.Native.Nat.{_-_, _+_, _≤_}
 use mathlib.Core.Path.{_≡_, refl}
 use mathlib.Core.List.{_++_}
 use native.Mathlib.Omega.{arith}
-use lib.ListN.{take, drop, replicate, length-drop}
-use lib.Seq.{take-all}
+use lib.ListN.{take, drop}
 use Rattle.controller.specs.States.{vacant}
-use Rattle.controller.proofs.Waiting.{one-more-up}
+use Rattle.controller.proofs.Waiting.{written, one-more-up}
 use borrow.Author.Needs.{needs}
 use Rattle.controller.proofs.queue.moved_up.Statement.{statement}
 use Rattle.controller.proofs.queue.moved_up.Tie as tie
 
 abbrev Inv-loop : tie.InvT-loop
-Inv-loop waiting moved₀ i₀ moved i =
-    (i ≤ 15) × (moved ≡ take i (drop 1 waiting) ++ replicate (16 - i) vacant)
+Inv-loop count waiting last moved₀ i₀ moved i =
+    (i ≤ last) × (moved ≡ take i (drop 1 waiting) ++ drop i waiting)
 
 abbrev μ-loop : tie.MeasureT-loop
-μ-loop waiting moved₀ i₀ moved i = 15 - i
+μ-loop count waiting last moved₀ i₀ moved i = last - i
+
+sub-last : tie.Need-sub-last Inv-loop μ-loop
+sub-last c = search needs
 
 loop-holds : tie.Need-loop-holds Inv-loop μ-loop
 loop-holds c = (search needs, refl)
@@ -46,16 +48,21 @@ loop-again : tie.Need-loop-again Inv-loop μ-loop
 loop-again c =
     let l = c .before .before .loop in
     let w = c .before .before .before .args .t1 in
-    let left : 16 - l .i ≡ suc (15 - l .i) = omega arith in
-    let after : 16 - (l .i + 1) ≡ 15 - l .i = omega arith in
-    (search needs, rw (l .inv .1, left, after) (one-more-up w (l .i) (15 - l .i) (omega arith)))
+    (search needs, rw (l .inv .1) (one-more-up w (l .i) (omega arith)))
+
+mul-moved-2 : tie.Need-mul-moved-2 Inv-loop μ-loop
+mul-moved-2 c = search needs
+
+array-set-from-moved-2 : tie.Need-array-set-from-moved-2 Inv-loop μ-loop
+array-set-from-moved-2 c = search needs
 
 returns : tie.Need-returns Inv-loop μ-loop
 returns c =
     let l = c .before .loop in
-    let w = c .before .before .args .t1 in
-    let last : l .i ≡ 15 = omega arith in
-    rw (l .inv .1, last, take-all 15 (drop 1 w) (rw (length-drop 1 w) (omega arith)))
+    let a = c .before .before .args in
+    let last : l .i ≡ a .count - 1 = omega arith in
+    let next : a .count - 1 + 1 ≡ a .count = omega arith in
+    rw (l .inv .1, last, written (a .t1) (a .count - 1) vacant (omega arith), next)
 
 pub moved-up-spec : {M : Type 1} → statement M
 moved-up-spec =
@@ -63,6 +70,7 @@ moved-up-spec =
     (tie.spec
     Inv-loop
     μ-loop
+    sub-last
     loop-holds
     add-request
     mul-request
@@ -72,4 +80,6 @@ moved-up-spec =
     add-i
     loop-less
     loop-again
+    mul-moved-2
+    array-set-from-moved-2
     returns)

@@ -1,5 +1,5 @@
 -- The words of the open pair, and what is left of the queue. Assumes nothing.
-use Rattle.controller.proofs.Waiting.{oldest-waits}
+use Rattle.controller.proofs.Waiting.{queue-fits}
 use borrow.Author.Needs.{needs}
 use Rattle.controller.proofs.ticking.closing.Statement.{statement}
 use Rattle.controller.proofs.ticking.closing.Tie as tie
@@ -13,19 +13,21 @@ words-of-requires c κs = search needs
 of-oldest-requires : tie.Need-of-oldest-requires
 of-oldest-requires c κs = search needs
 
-add-t14 : tie.Need-add-t14
-add-t14 c = search needs
+add-t15 : tie.Need-add-t15
+add-t15 c = search needs
 
 remembered-requires : tie.Need-remembered-requires
 remembered-requires c κs = search needs
 
 requests-left-requires : tie.Need-requests-left-requires
-requests-left-requires c κs = search needs
+requests-left-requires c κs =
+    let a = c .before .before .before .before .before .before .before .args in
+    rw (c .before .of-oldest .ensures) (queue-fits (a .timing) (a .controller) (c .before .before .before .before .before .before .before .pre .1))
 
 count-left-requires : tie.Need-count-left-requires
 count-left-requires c κs =
     let a = c .before .before .before .before .before .before .before .before .args in
-    rw (c .before .before .of-oldest .ensures) (oldest-waits (a .timing) (a .controller) (c .before .before .before .before .before .before .before .before .pre .1))
+    rw (c .before .before .of-oldest .ensures) (queue-fits (a .timing) (a .controller) (c .before .before .before .before .before .before .before .before .pre .1) .1)
 
 returns : tie.Need-returns
 returns c = rw
@@ -38,7 +40,7 @@ closing-spec =
     array-copy-out-words-of
     words-of-requires
     of-oldest-requires
-    add-t14
+    add-t15
     remembered-requires
     requests-left-requires
     count-left-requires
