@@ -5,6 +5,7 @@
  */
 #include "fcram.h"
 
+#include <errno.h>
 #include <getopt.h>
 #include <stdbool.h>
 #include <stdio.h>
@@ -13,6 +14,9 @@
 
 /* The ten numbers of a sheet, in the order of the library's call. */
 enum { GRADE, CL, BL, ORGANISATION, PERIOD, RBD, RWD, WRD, RSC, REFC, NUMBERS };
+
+/* A trace of 512 MiB or more, eight times as many bytes as are checked, is not read to its end and has no verdict. */
+static const size_t TOO_LARGE = (size_t)1 << 29;
 
 /* Sheet E, the institute's own. */
 static uint32_t sheet[NUMBERS] = {37, 4, 4, 16, 5000, 2, 3, 1, 7, 18};
@@ -96,7 +100,7 @@ static uint8_t *grown(uint8_t *bytes, size_t room) {
     return larger;
 }
 
-/* Reads a stream to its end, or to where reading fails, into memory that the caller frees; NULL if there is none. */
+/* Reads a stream to its end, or to where reading fails, into memory that the caller frees; NULL if it does not fit. */
 static uint8_t *read_all(FILE *file, size_t *length) {
     size_t room = 1 << 16;
     uint8_t *bytes = malloc(room);
@@ -105,6 +109,11 @@ static uint8_t *read_all(FILE *file, size_t *length) {
         *length += fread(bytes + *length, 1, room - *length, file);
         if (*length < room)
             return bytes;
+        if (room == TOO_LARGE) {
+            free(bytes);
+            errno = EFBIG;
+            return NULL;
+        }
         room *= 2;
         bytes = grown(bytes, room);
     }
@@ -163,5 +172,9 @@ int main(int argc, char **argv) {
     }
     int status = mark(name, file);
     fclose(file);
+    if (fflush(stdout) != 0) {
+        perror("site");
+        return 2;
+    }
     return status;
 }

@@ -71,10 +71,26 @@ pub fn assemble(text: &[u8]) -> Result<Trace, Fault> {
         let line_number = index + 1;
         assembler.line(line).map_err(|what| Fault {
             line: line_number,
-            what,
+            what: printable(&what),
         })?;
     }
     Ok(assembler.trace)
+}
+
+/// The most characters of what is said of a line.
+const MOST_SAID: usize = 200;
+
+/// What is said of a line, which may quote it: cut short, and its control characters escaped.
+fn printable(what: &str) -> String {
+    let escaped = |c: char| match c.is_control() {
+        true => c.escape_default().to_string(),
+        false => c.to_string(),
+    };
+    let mut said: String = what.chars().take(MOST_SAID).map(escaped).collect();
+    if what.chars().nth(MOST_SAID).is_some() {
+        said.push('…');
+    }
+    said
 }
 
 impl Assembler {

@@ -2,6 +2,7 @@
 
 use crate::command::{Format, Lane};
 use crate::LONGEST;
+use std::collections::HashSet;
 use std::ops::RangeInclusive;
 
 /// What was read, or what is wrong with the line.
@@ -13,13 +14,11 @@ pub struct Fields<'a>(Vec<(&'a str, Option<&'a str>)>);
 impl<'a> Fields<'a> {
     /// The tokens by twos, each name at most once.
     pub fn new(tokens: &[&'a str]) -> Outcome<Fields<'a>> {
-        let mut fields: Vec<(&str, Option<&str>)> = Vec::new();
+        let mut fields = Vec::new();
+        let mut names = HashSet::new();
         for field in tokens.chunks(2) {
             let name = field[0];
-            if fields
-                .iter()
-                .any(|(other, _)| other.eq_ignore_ascii_case(name))
-            {
+            if !names.insert(name.to_ascii_lowercase()) {
                 return Err(format!("{name} stands twice"));
             }
             fields.push((name, field.get(1).copied()));

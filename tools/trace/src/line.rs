@@ -102,7 +102,7 @@ fn mode(rest: &[&str]) -> Outcome<Line> {
     }
 }
 
-/// The command with the repeat count, which ends the line.
+/// The command with the repeat count; the line has nothing else.
 fn repeated(mut fields: Fields, command: Command, name: &str) -> Outcome<Line> {
     let count = fields.count()?;
     fields.end(name)?;

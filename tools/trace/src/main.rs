@@ -71,7 +71,13 @@ fn one_of(text: &str, values: [u32; 2]) -> Option<u32> {
 
 /// Does what is asked for. The output is not touched before the whole input is found good.
 fn run(call: &Call) -> Result<(), String> {
-    let input = read(&call.input).map_err(|e| format!("{}: {e}", call.input))?;
+    // Words past the longest trace are not read: the input may have no end.
+    let most = if call.listing {
+        4 * LONGEST + 4
+    } else {
+        u64::MAX
+    };
+    let input = read(&call.input, most).map_err(|e| format!("{}: {e}", call.input))?;
     let fault = |e: io::Error| format!("{}: {e}", call.output);
     if !call.listing {
         let trace = assemble(&input).map_err(|e| e.to_string())?;
@@ -83,13 +89,14 @@ fn run(call: &Call) -> Result<(), String> {
     write(&call.output, |out| list(&input, call.format, out)).map_err(fault)
 }
 
-/// All bytes of a file or of standard input.
-fn read(name: &str) -> io::Result<Vec<u8>> {
-    if name != "-" {
-        return std::fs::read(name);
-    }
+/// The bytes of a file or of standard input, up to so many.
+fn read(name: &str, most: u64) -> io::Result<Vec<u8>> {
+    let file: Box<dyn Read> = match name {
+        "-" => Box::new(io::stdin().lock()),
+        _ => Box::new(File::open(name)?),
+    };
     let mut bytes = Vec::new();
-    io::stdin().read_to_end(&mut bytes)?;
+    file.take(most).read_to_end(&mut bytes)?;
     Ok(bytes)
 }
 

@@ -134,6 +134,17 @@ fn lines_after_others() {
 }
 
 #[test]
+fn what_cannot_be_printed() {
+    assert_eq!(
+        fault(b"NOP\x1B[2J\0"),
+        "line 1: NOP\\u{1b}[2J\\u{0} is no command"
+    );
+    let long = "N".repeat(100_000);
+    let wanted = format!("line 1: {}…", "N".repeat(200));
+    assert_eq!(fault(long.as_bytes()), wanted);
+}
+
+#[test]
 fn not_text() {
     assert_eq!(fault(b"DESL\n\xFF\n"), "line 2: not UTF-8 text");
 }

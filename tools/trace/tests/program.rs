@@ -93,6 +93,13 @@ fn a_file_that_is_not_there() {
 }
 
 #[test]
+fn an_input_without_an_end() {
+    let run = run(&["list", "/dev/zero"], b"");
+    assert_eq!(run.status.code(), Some(1));
+    assert_eq!(run.stderr, b"the trace is longer than 67108864 words\n");
+}
+
+#[test]
 fn wrong_arguments() {
     let calls: [&[&str]; 8] = [
         &[],
