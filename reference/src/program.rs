@@ -2,6 +2,8 @@
 
 use std::fs::File;
 use std::io::{Read, Write};
+use std::os::fd::OwnedFd;
+use std::os::unix::net::UnixStream;
 use std::path::Path;
 use std::process::{Command, Stdio};
 use std::sync::mpsc;
@@ -20,6 +22,9 @@ pub enum Feed<'a> {
     Pieces(usize),
     /// From a file, which is written at this path first and removed once it is open.
     File(&'a Path),
+    /// By a socket that does not wait: so many bytes at the start and the rest, by the word, after a pause, so that a read between them fails. What
+    /// the program says of that on standard error is dropped.
+    Unready(usize, Duration),
 }
 
 /// What a run gave: the bytes on standard output and the exit code.
@@ -27,6 +32,19 @@ pub enum Feed<'a> {
 pub struct Output {
     pub bytes: Vec<u8>,
     pub code: i32,
+}
+
+/// An input of which so many bytes are there, and the rest comes later.
+fn unready(input: &[u8], first: usize, pause: Duration) -> std::io::Result<Stdio> {
+    let (mut ours, theirs) = UnixStream::pair()?;
+    theirs.set_nonblocking(true)?;
+    ours.write_all(&input[..first])?;
+    let rest = input[first..].to_vec();
+    thread::spawn(move || {
+        thread::sleep(pause);
+        rest.chunks(4).try_for_each(|word| ours.write_all(word))
+    });
+    Ok(Stdio::from(OwnedFd::from(theirs)))
 }
 
 /// Runs the program at a path on an input. Fails if it cannot run, does not end, or a signal ends it.
@@ -38,11 +56,17 @@ pub fn run(path: &Path, input: &[u8], feed: Feed) -> Result<Output, String> {
             let _ = std::fs::remove_file(file);
             Stdio::from(opened)
         }
+        Feed::Unready(first, pause) => unready(input, first, pause).map_err(|e| e.to_string())?,
         _ => Stdio::piped(),
+    };
+    let stderr = match feed {
+        Feed::Unready(..) => Stdio::null(),
+        _ => Stdio::inherit(),
     };
     let mut child = Command::new(path)
         .stdin(stdin)
         .stdout(Stdio::piped())
+        .stderr(stderr)
         .spawn()
         .map_err(|e| format!("{}: {e}", path.display()))?;
     if let Some(mut pipe) = child.stdin.take() {

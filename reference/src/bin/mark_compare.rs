@@ -9,7 +9,7 @@ use reference::suites::marks;
 use reference::summary::Summary;
 use std::path::PathBuf;
 use std::process::exit;
-use std::time::Instant;
+use std::time::{Duration, Instant};
 
 const USAGE: &str = "mark_compare --marker PATH|self [--scale N]";
 const SEED: u64 = 0x5EED_0005;
@@ -64,6 +64,27 @@ impl Marker {
         self.coverage.meet(&format!("input handed over {manner}"));
         self.coverage.meet(&format!("exit code {}", output.code));
         self.count(input, &wanted);
+    }
+
+    /// Hands over a trace whose last word is a breach so that a read may fail on the way. A line is that of the whole trace.
+    fn unready(&mut self, words: usize) {
+        let mut input = [0, 0, 12, 0].repeat(words);
+        input.extend([0; 4]);
+        let first = 4 * self.random.below(words as u32) as usize;
+        let pause = Duration::from_micros(self.random.below(1_000).into());
+        let feed = Feed::Unready(first, pause);
+        let wanted = marker_line::<Both>(&input);
+        let output = match self.output(&input, feed) {
+            Ok(output) => output,
+            Err(fault) => fail(&input, feed, &wanted, &fault),
+        };
+        if output.bytes.is_empty() {
+            self.coverage.meet("no line after a failed read");
+        } else if output.bytes != wanted.as_bytes() {
+            let written = format!("{:?}", String::from_utf8_lossy(&output.bytes));
+            fail(&input, feed, &wanted, &written);
+        }
+        self.inputs += 1;
     }
 
     /// Counts an answer: a breach without its clock, a refusal with the bytes over whole words.
@@ -121,12 +142,19 @@ fn main() {
     let mut met = Coverage::default();
     marks::inputs(SEED, scale, &mut met, &mut |input| marker.compare(input));
     marker.coverage.add(met);
+    let mut promised = marks::promised();
+    if marker.program.is_some() {
+        for words in 1..=300 * scale as usize {
+            marker.unready(10 * words);
+        }
+        promised.push("no line after a failed read".to_string());
+    }
     println!(
         "marker: seed {SEED:#x}, scale {scale}, {} inputs agree, {:.1} s",
         marker.inputs,
         start.elapsed().as_secs_f64()
     );
-    let sound = marker.coverage.report(&marks::promised());
+    let sound = marker.coverage.report(&promised);
     println!(
         "{}",
         if sound {
