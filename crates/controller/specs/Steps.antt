@@ -54,12 +54,12 @@ allFit t [] = true
 allFit t (r ∷ rs) = requestFits t r && allFit t rs
 
 -- the two words of an open pair, from what it stands for; DESL where none is open
-abbrev pub wordsOf : Timing → OpenPair → Request → Pair
-wordsOf t Nothing oldest = record { first = 0xC0000; second = 0xC0000 }
-wordsOf t Extended oldest = pairOf t (ExtendedMode 0)
-wordsOf t Regular oldest = pairOf t (RegularMode false)
-wordsOf t Refresh oldest = pairOf t Refreshing
-wordsOf t Oldest oldest = pairOf t (Access oldest)
+abbrev pub pairWords : Timing → OpenPair → Request → Pair
+pairWords t Nothing request = record { first = 0xC0000; second = 0xC0000 }
+pairWords t Extended request = pairOf t (ExtendedMode 0)
+pairWords t Regular request = pairOf t (RegularMode false)
+pairWords t Refresh request = pairOf t Refreshing
+pairWords t Oldest request = pairOf t (Access request)
 
 abbrev pub isOpen : OpenPair → Bool
 isOpen Nothing = false
@@ -125,13 +125,14 @@ nextPair t s clock count =
 abbrev pub passes : Timing → Timestamps → ℕ → Pair → Bool
 passes t s clock w = eqb (wordBreach t s clock 0xC0000 (w .first)) 0 && eqb (wordBreach t s (clock + 1) (w .first) (w .second)) 0
 
-abbrev pub oldest : Controller → Request
-oldest s = getD (s .waiting) 0 vacant
+-- the request at the head of the queue, or a vacant place
+abbrev pub oldestRequest : Controller → Request
+oldestRequest s = getD (s .waiting) 0 vacant
 
 abbrev pub opensNext : Timing → Controller → OpenPair
 opensNext t s =
     let next = nextPair t (s .stamps) (s .clock) (s .count) in
-    cond (passes t (s .stamps) (s .clock) (wordsOf t next (oldest s))) next Nothing
+    cond (passes t (s .stamps) (s .clock) (pairWords t next (oldestRequest s))) next Nothing
 
 -- a tick with no pair open: the first word of the pair that opens, "otherwise DESL"
 abbrev pub starting : Timing → Controller → Tick
@@ -139,7 +140,7 @@ starting t s =
     let next = opensNext t s in
     record {
       outcome = value tt;
-      word = wordsOf t next (oldest s) .first;
+      word = pairWords t next (oldestRequest s) .first;
       after =
           record {
             config = s .config;
@@ -158,7 +159,7 @@ movedUp n rs = take (n - 1) (drop 1 rs) ++ (vacant ∷ drop n rs)
 -- one with a pair open: "the closing word". "A request waits until its closing word is out."
 abbrev pub closing : Timing → Controller → Tick
 closing t s =
-    let w = wordsOf t (s .opened) (oldest s) in
+    let w = pairWords t (s .opened) (oldestRequest s) in
     record {
       outcome = value tt;
       word = w .second;

@@ -10,11 +10,11 @@ use rules::Timestamps;
 ghost use mathlib.Core.Path.{_≡_};
 ghost use Prim.Native.Nat.{_+_, _<_};
 ghost use lib.Dec.{leb};
-ghost use Rattle.controller.specs.Steps.{wordsOf, nextPair, passes, opensNext};
+ghost use Rattle.controller.specs.Steps.{pairWords, nextPair, passes, opensNext};
 
 // The two words of an open pair; DESL where none is open.
-pub(crate) fn words_of(timing: Timing, opened: OpenPair, oldest: Request) -> Pair
-    ensures { λ r. ⌜ r ≡ wordsOf timing opened oldest ⌝ }
+pub(crate) fn pair_words(timing: Timing, opened: OpenPair, oldest: Request) -> Pair
+    ensures { λ r. ⌜ r ≡ pairWords timing opened oldest ⌝ }
 {
     match opened {
         OpenPair::Nothing => Pair {
@@ -76,7 +76,7 @@ pub(crate) fn opens_next(timing: Timing, controller: Controller) -> OpenPair
     let waiting = controller.waiting;
     let clock = controller.clock;
     let next = next_pair(timing, stamps, clock, controller.count);
-    let words = words_of(timing, next, waiting[0]);
+    let words = pair_words(timing, next, waiting[0]);
     if passes(timing, stamps, clock, words) {
         next
     } else {

@@ -4,7 +4,7 @@ use crate::Controller;
 use crate::OpenPair;
 use crate::Ticked;
 use crate::next::opens_next;
-use crate::next::words_of;
+use crate::next::pair_words;
 use crate::queue::count_left;
 use crate::queue::requests_left;
 use crate::state::is_open;
@@ -29,7 +29,7 @@ fn starting(timing: Timing, controller: Controller) -> Ticked
     let stamps = controller.stamps;
     let waiting = controller.waiting;
     let next = opens_next(timing, controller);
-    let words = words_of(timing, next, waiting[0]);
+    let words = pair_words(timing, next, waiting[0]);
     Ticked {
         answer: CallAnswer::Accepted,
         word: words.first,
@@ -55,7 +55,7 @@ fn closing(timing: Timing, controller: Controller) -> Ticked
     let waiting = controller.waiting;
     let clock = controller.clock;
     let count = controller.count;
-    let words = words_of(timing, opened, waiting[0]);
+    let words = pair_words(timing, opened, waiting[0]);
     let leaves = of_oldest(opened);
     Ticked {
         answer: CallAnswer::Accepted,

@@ -40,8 +40,9 @@ countsOf words =
       desls = deslsFrom nothing words;
     }
 
-abbrev pub zero : CommandCounts
-zero = record { reads = 0; writes = 0; modes = 0; refreshes = 0; desls = 0 }
+-- what a refused tally has
+abbrev pub noCounts : CommandCounts
+noCounts = record { reads = 0; writes = 0; modes = 0; refreshes = 0; desls = 0 }
 
 -- an answer in the paper's terms: 0 or the refusal's number, and the counts
 pub record Counting : Type 0 where
@@ -54,4 +55,4 @@ countingOutcome (Refused r c) = record { number = refusalNumber r; counts = c }
 
 -- "Tally: 30 too long, all counts 0."
 abbrev pub countingOf : List ℕ → Counting
-countingOf words = cond (leb (length words) 65536) (record { number = 0; counts = countsOf words }) (record { number = 30; counts = zero })
+countingOf words = cond (leb (length words) 65536) (record { number = 0; counts = countsOf words }) (record { number = 30; counts = noCounts })

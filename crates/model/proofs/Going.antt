@@ -23,7 +23,7 @@ use Rattle.rules.specs.Rules.{wasAccess, breachAt}
 use Rattle.rules.proofs.Newest.{Ordered}
 use Rattle.rules.proofs.Summary.{summary}
 use Rattle.rules.proofs.Words.{ordered-mono, breach-is}
-use Rattle.model.specs.Laid.{Course, start, candidate, breachless, opening, firstWord, leave, giving, Advance, tick, offered}
+use Rattle.model.specs.Laid.{Course, start, candidate, breachless, opening, firstWord, leave, giving, Advance, tick, queued}
 use Rattle.model.specs.Runs.{requestOf, requestsOf, starts, isAccess, accessOpen}
 use Rattle.model.proofs.Figures.{Figures}
 use Rattle.model.proofs.Candidates.{Due, candidate-due, fits-open}
@@ -211,14 +211,14 @@ module _ (t : Timing) (f : Figures t) where
 
   -- an accepted offer
   pub offer-goes : (c : Course) (Bs : List ℕ) (r : Request) → requestFits t r ≡ true → length (c .waiting) < 16 → Going c Bs
-      → Going (offered c r) (Bs ++ (bound t (c .past .clock) (length (c .waiting)) ∷ []))
+      → Going (queued c r) (Bs ++ (bound t (c .past .clock) (length (c .waiting)) ∷ []))
   offer-goes c Bs r h few (between ps k rs e o ph q) =
-      between ps k (rs ++ (r ∷ [])) (ap (λ c. offered c r) e) o ph
+      between ps k (rs ++ (r ∷ [])) (ap (λ c. queued c r) e) o ph
       (rw e (queue-offer t f ps k k (length rs) o (le-refl k) (omega arith) (rw e at few) rs Bs r (le-refl (length rs)) h q))
   offer-goes c Bs r h few (within ps u o qs e d fits b ph q) =
       let rs = requestOf o ++ qs in
       let all = length-append (requestOf o) qs in
-      within ps u o (qs ++ (r ∷ [])) (ap (λ c. offered c r) e ∙ ap (inPair u o ps) (append-assoc (requestOf o) qs (r ∷ []))) d fits b ph
+      within ps u o (qs ++ (r ∷ [])) (ap (λ c. queued c r) e ∙ ap (inPair u o ps) (append-assoc (requestOf o) qs (r ∷ []))) d fits b ph
       (rw e (queue-offer t f (pairAt t u o ∷ ps) (u + 2) (u + 1) (length rs) (omega arith, d) (omega arith) (omega arith) (rw e at few) qs Bs r (omega arith) h q))
 
   pub start-goes : Going start []

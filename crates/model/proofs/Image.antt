@@ -25,7 +25,7 @@ use Rattle.rules.proofs.Summary.{summary}
 use Rattle.rules.proofs.Words.{ordered-mono, breach-is}
 use Rattle.model.specs.Laid.{Course, orElse, refreshDue, oldestOf, candidate, breachless, opening, firstWord}
 use Rattle.controller.specs.States.{vacant}
-use Rattle.controller.specs.Steps.{wordsOf, isOpen, ofOldest, nextPair, passes}
+use Rattle.controller.specs.Steps.{pairWords, isOpen, ofOldest, nextPair, passes}
 use Rattle.controller.specs.declared.Controller.{Controller}
 use Rattle.controller.specs.declared.OpenPair.{OpenPair}
 use Rattle.controller.specs.declared.OpenPair.the-variants.{Nothing, Extended, Regular, Refresh, Oldest}
@@ -51,7 +51,7 @@ abbrev pub isSome : Option Operation → Bool
 isSome none = false
 isSome (some o) = true
 
-pub words-in : (t : Timing) (x : OpenPair) (r : Request) → wordsOf t x r ≡ pairIn t (operationIn x r)
+pub words-in : (t : Timing) (x : OpenPair) (r : Request) → pairWords t x r ≡ pairIn t (operationIn x r)
 words-in t Nothing r = refl
 words-in t Extended r = refl
 words-in t Regular r = refl
@@ -139,8 +139,8 @@ module _ (t : Timing) (ps : List ClosedPair) (k : ℕ) where
 
   -- what opens
   pub opens-is : Figures t → (rs : List Request) (n : OpenPair) (x : Option Operation) → Ordered k ps → Due t rs x → operationIn n (front rs) ≡ x
-      → operationIn (cond (passes t (summary ps) k (wordsOf t n (front rs))) n Nothing) (front rs) ≡ opening t (idle k ps) x
-  opens-is f rs n none o d e = go (passes t (summary ps) k (wordsOf t n (front rs)))
+      → operationIn (cond (passes t (summary ps) k (pairWords t n (front rs))) n Nothing) (front rs) ≡ opening t (idle k ps) x
+  opens-is f rs n none o d e = go (passes t (summary ps) k (pairWords t n (front rs)))
     where
       go : (b : Bool) → operationIn (cond b n Nothing) (front rs) ≡ none
       go true = e

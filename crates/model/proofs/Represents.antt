@@ -26,7 +26,7 @@ use Rattle.protocol.proofs.Kept.{fits}
 use Rattle.model.specs.Laid.{Course}
 use Rattle.model.specs.Laid as laid
 use Rattle.controller.specs.States.{vacant}
-use Rattle.controller.specs.Steps.{Offer, held, allFit, wordsOf, ofOldest, stateFits, joined, notOffered, offerOf, nextPair, passes, movedUp, notTicked, tickOf}
+use Rattle.controller.specs.Steps.{Offer, held, allFit, pairWords, ofOldest, stateFits, joined, notOffered, offerOf, nextPair, passes, movedUp, notTicked, tickOf}
 use Rattle.model.specs.Runs.{requestOf, isAccess, accessOpen}
 use Rattle.controller.specs.declared.Controller.{Controller}
 use Rattle.controller.specs.declared.OpenPair.{OpenPair}
@@ -146,17 +146,17 @@ module _ (c : Config) (t : Timing) (is : timingOf c ≡ value t) (f : Figures t)
       (rw (is, state-fits x Bs (r .opened) (r .spare) g low (r .room) (r .operation) (r .of-waiting)))
 
   -- and otherwise joins the queue
-  joined-image : (x : Course) (p : OpenPair) (n : ℕ) (q : Request) → joined (image c x p (suc n)) q ≡ image c (laid.offered x q) p n
+  joined-image : (x : Course) (p : OpenPair) (n : ℕ) (q : Request) → joined (image c x p (suc n)) q ≡ image c (laid.queued x q) p n
   joined-image x p n q =
       let rs = x .waiting in
       let places = set-append-seam rs vacant (replicate n vacant) q ∙ sym (append-assoc rs (q ∷ []) (replicate n vacant)) in
       let count = sym (length-append rs (q ∷ [])) in
       rw (places, count)
 
-  pub offer-represents : (s : Controller) (x : Course) (q : Request) → Represents s x → length (x .waiting) < 16 → Represents (joined s q) (laid.offered x q)
+  pub offer-represents : (s : Controller) (x : Course) (q : Request) → Represents s x → length (x .waiting) < 16 → Represents (joined s q) (laid.queued x q)
   offer-represents s x q r few = go (r .spare) (r .state) (r .room)
     where
-      go : (n : ℕ) → s ≡ image c x (r .opened) n → length (x .waiting) + n ≡ 16 → Represents (joined s q) (laid.offered x q)
+      go : (n : ℕ) → s ≡ image c x (r .opened) n → length (x .waiting) + n ≡ 16 → Represents (joined s q) (laid.queued x q)
       go zero e h = absurd (omega arith)
       go (suc n) e h =
           let one = length-append (x .waiting) (q ∷ []) in
@@ -184,9 +184,9 @@ module _ (c : Config) (t : Timing) (is : timingOf c ≡ value t) (f : Figures t)
       let next = nextPair t (summary ps) k (length rs) in
       let opening = laid.opening t (idle k ps) (laid.candidate t (idle k ps) rs) in
       let due = opening-due t rs (idle k ps) (laid.candidate t (idle k ps) rs) (candidate-due t (idle k ps) rs a) .0 in
-      let opens = cond (passes t (summary ps) k (wordsOf t next (front rs))) next Nothing in
+      let opens = cond (passes t (summary ps) k (pairWords t next (front rs))) next Nothing in
       let same : operationIn opens (front rs) ≡ opening = opens-is t ps k f rs next (laid.candidate t (idle k ps) rs) o (candidate-due t (idle k ps) rs a) (next-is t ps k rs) in
-      let word : wordsOf t opens (front rs) .first ≡ laid.firstWord t opening = ap (λ w. w .first) (words-in t opens (front rs)) ∙ ap (λ y. pairIn t y .first) same ∙ first-in t opening in
+      let word : pairWords t opens (front rs) .first ≡ laid.firstWord t opening = ap (λ w. w .first) (words-in t opens (front rs)) ∙ ap (λ y. pairIn t y .first) same ∙ first-in t opening in
       record {
         after = image c (laid.tick t x .after) opens n;
         tick =
@@ -215,7 +215,7 @@ module _ (c : Config) (t : Timing) (is : timingOf c ≡ value t) (f : Figures t)
       let l = left o qs n room in
       let from : u + 1 - 1 + 1 ≡ u + 1 = omega arith in
       let kept : remembered (summary ps) (u + 1) (w .first) (w .second) ≡ summary (laid.tick t x .after .past .pairs) = sym (summary-step (u + 1 - 1) (w .first) (w .second) ps ∙ ap (λ k. remembered (summary ps) k (w .first) (w .second)) from) in
-      let words : wordsOf t p (front rs) ≡ w = words-in t p (front rs) ∙ ap (pairIn t) e in
+      let words : pairWords t p (front rs) ≡ w = words-in t p (front rs) ∙ ap (pairIn t) e in
       let kind : ofOldest p ≡ isAccess o = oldest-in p (front rs) ∙ ap accessOpen e in
       record {
         after = image c (laid.tick t x .after) Nothing (l .vacancies);

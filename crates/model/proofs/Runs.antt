@@ -44,7 +44,7 @@ judge-snoc t p (v ∷ ws) w e h = led (breachAt t p v) (p .clock) _ _ e (λ r. j
 tick-past : (t : Timing) (x : laid.Course) → laid.tick t x .after .past ≡ extend (x .past) (laid.tick t x .word)
 tick-past t x = by (x .opened)
   where
-    by : (o : Option Operation) → laid.tickBy o t x .after .past ≡ extend (x .past) (laid.tickBy o t x .word)
+    by : (o : Option Operation) → laid.tickWith o t x .after .past ≡ extend (x .past) (laid.tickWith o t x .word)
     by none = refl
     by (some o) = refl
 
@@ -107,7 +107,7 @@ module _ (c : Config) (t : Timing) (is : timingOf c ≡ value t) (f : Figures t)
 
   -- an offer
   taken : (r : Run) (k : Prescribed) (q : Request) → Kept r k → requestFits t q ≡ true → length (k .course .waiting) < 16
-      → Kept (called r (offer q)) (record { words = k .words; course = laid.offered (k .course) q })
+      → Kept (called r (offer q)) (record { words = k .words; course = laid.queued (k .course) q })
   taken r k q h fits few =
       let s = r .controller in
       let x = k .course in
@@ -145,7 +145,7 @@ module _ (c : Config) (t : Timing) (is : timingOf c ≡ value t) (f : Figures t)
           offer-is c t is f (r .controller) (k .course) (h .bounds) q (h .represents) (h .going) (omega arith)
 
       by : (b d : Bool) → requestFits t q ≡ b → ltb (length (k .course .waiting)) 16 ≡ d
-          → Kept (called r (offer q)) (cond (b && d) (record { words = k .words; course = laid.offered (k .course) q }) k)
+          → Kept (called r (offer q)) (cond (b && d) (record { words = k .words; course = laid.queued (k .course) q }) k)
       by true true e g = taken r k q h e (ltb-true (length (k .course .waiting)) 16 g)
       by true false e g = rw (is-offer, e, g, append-nil (r .accepted)) h
       by false d e g = rw (is-offer, e, append-nil (r .accepted)) h

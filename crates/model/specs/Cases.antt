@@ -9,8 +9,8 @@ use Rattle.command.specs.declared.operation.Request.{Request}
 use Rattle.config.specs.Configuration.{institute, derived}
 use Rattle.config.specs.declared.Timing.{Timing}
 use Rattle.command.specs.Pins.{level}
-use Rattle.protocol.specs.Cases.{Row, row, agree, words, startUp, readAt, table as checked}
-use Rattle.model.specs.Laid.{Course, start, tick, offered}
+use Rattle.protocol.specs.Cases.{Row, row, agree, words, startUpPairs, readAt, checkerCases}
+use Rattle.model.specs.Laid.{Course, start, tick, queued}
 
 -- the next words are these
 abbrev pub gives : Timing → Course → List ℕ → Bool
@@ -24,9 +24,9 @@ abbrev pub table : List Row
 table =
     -- a. Fresh, a bank 0 read offered before the first tick: words A0000, 84000 at 0, 1; A0000, 80042 at 7, 8; 80000 at 14, 15, 32, 33; RDA
     -- at 201. DESL stands at every other clock, 200 among them.
-    row (level (gives (derived institute) (offered start bank0Read) (words 0 (startUp ++ (readAt 201 0 ∷ [])) 1))) 1
-    -- b to h
-    ∷ checked
+    row (level (gives (derived institute) (queued start bank0Read) (words 0 (startUpPairs ++ (readAt 201 0 ∷ [])) 1))) 1
+    -- b to h, after the institute's own figures
+    ∷ checkerCases
 
 pub cases : agree table ≡ true
 cases = refl

@@ -59,8 +59,8 @@ opening t p none = none
 opening t p (some o) = cond (breachless t p (pairOf t o)) (some o) none
 
 -- what opens at the next tick, if no pair is open
-abbrev pub opens : Timing → Course → Option Operation
-opens t c = opening t (c .past) (candidate t (c .past) (c .waiting))
+abbrev pub nextOpened : Timing → Course → Option Operation
+nextOpened t c = opening t (c .past) (candidate t (c .past) (c .waiting))
 
 abbrev pub firstWord : Timing → Option Operation → ℕ
 firstWord t none = 0xC0000
@@ -83,13 +83,13 @@ abbrev pub giving : ℕ → Course → Option Operation → List Request → Adv
 giving w c opened waiting = record { word = w; after = record { past = extend (c .past) w; opened = opened; waiting = waiting } }
 
 -- "Tick gives the word for its clock: the closing word if a pair is open", and otherwise the first word of the pair that opens, or DESL
-abbrev pub tickBy : Option Operation → Timing → Course → Advance
-tickBy (some o) t c = giving (pairOf t o .second) c none (leave o (c .waiting))
-tickBy none t c = let o = opens t c in giving (firstWord t o) c o (c .waiting)
+abbrev pub tickWith : Option Operation → Timing → Course → Advance
+tickWith (some o) t c = giving (pairOf t o .second) c none (leave o (c .waiting))
+tickWith none t c = let o = nextOpened t c in giving (firstWord t o) c o (c .waiting)
 
 abbrev pub tick : Timing → Course → Advance
-tick t c = tickBy (c .opened) t c
+tick t c = tickWith (c .opened) t c
 
 -- after an accepted offer
-abbrev pub offered : Course → Request → Course
-offered c r = record { past = c .past; opened = c .opened; waiting = c .waiting ++ (r ∷ []) }
+abbrev pub queued : Course → Request → Course
+queued c r = record { past = c .past; opened = c .opened; waiting = c .waiting ++ (r ∷ []) }

@@ -66,7 +66,7 @@ pub record Prescribed : Type 0 where
 -- an offer is refused "exactly for 26 or 27, a tick exactly for 24"
 abbrev pub followed : Timing → Prescribed → Call → Prescribed
 followed t k (offer q) =
-    cond (requestFits t q && ltb (length (k .course .waiting)) 16) (record { words = k .words; course = laid.offered (k .course) q }) k
+    cond (requestFits t q && ltb (length (k .course .waiting)) 16) (record { words = k .words; course = laid.queued (k .course) q }) k
 followed t k tick =
     let a = laid.tick t (k .course) in
     cond (ltb (length (k .words)) 16777216) (record { words = k .words ++ (a .word ∷ []); course = a .after }) k

@@ -6,7 +6,7 @@ use mathlib.Core.List.{List, [], _∷_, _++_}
 use lib.ListN.{replicate}
 use lib.Dec.{eqb}
 use Rattle.config.specs.Outcome.{Outcome, value, refused}
-use Rattle.config.specs.Configuration.{institute, timingOf}
+use Rattle.config.specs.Configuration.{institute, derived, timingOf}
 use Rattle.config.specs.declared.Config.{Config}
 use Rattle.command.specs.Writing.{writePair}
 use Rattle.command.specs.declared.operation.Operation.the-variants.{Access}
@@ -28,8 +28,8 @@ words k [] more = replicate more 0xC0000
 words k (p ∷ ps) more = replicate (p .clock - k) 0xC0000 ++ (p .first ∷ p .second ∷ words (p .clock + 2) ps more)
 
 -- the start-up of case a
-abbrev pub startUp : List At
-startUp = pair 0 0xA0000 0x84000 ∷ pair 7 0xA0000 0x80042 ∷ pair 14 0x80000 0x80000 ∷ pair 32 0x80000 0x80000 ∷ []
+abbrev pub startUpPairs : List At
+startUpPairs = pair 0 0xA0000 0x84000 ∷ pair 7 0xA0000 0x80042 ∷ pair 14 0x80000 0x80000 ∷ pair 32 0x80000 0x80000 ∷ []
 
 -- reads and writes of bank b, row and column 0; the write has four words in each lane
 abbrev pub readAt : ℕ → ℕ → At
@@ -52,7 +52,7 @@ number (refused n) = n
 
 -- the verdict on the start-up, these pairs, and DESL behind them
 abbrev pub verdictOn : List At → ℕ → ℕ
-verdictOn ps more = number (checkOf institute (words 0 (startUp ++ ps) more))
+verdictOn ps more = number (checkOf institute (words 0 (startUpPairs ++ ps) more))
 
 abbrev pub withPeriod : ℕ → Config
 withPeriod p =
@@ -86,10 +86,15 @@ abbrev pub lalOf : Outcome Pair → ℕ
 lalOf (value p) = p .second
 lalOf (refused n) = 0
 
-abbrev pub table : List Row
-table =
+abbrev pub checkerCases : List Row
+checkerCases =
+    -- the institute's sheet E: "Then RC 5, D 780, W 641, S 5."
+    row (derived institute .rc) 5
+    ∷ row (derived institute .refi) 780
+    ∷ row (derived institute .window) 641
+    ∷ row (derived institute .spacing) 5
     -- b. Same bank reads 201, 206 pass; 201, 205: breach 7 at 206.
-    row (verdictOn (readAt 201 0 ∷ readAt 206 0 ∷ []) 0) 0
+    ∷ row (verdictOn (readAt 201 0 ∷ readAt 206 0 ∷ []) 0) 0
     ∷ row (verdictOn (readAt 201 0 ∷ readAt 205 0 ∷ []) 0) 20607
     -- c. Read 201, other bank's write 205 passes; 204: breach 8 at 205.
     ∷ row (verdictOn (readAt 201 0 ∷ writeAt 205 bank1 ∷ []) 0) 0

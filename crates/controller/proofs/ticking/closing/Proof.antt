@@ -4,11 +4,11 @@ use borrow.Author.Needs.{needs}
 use Rattle.controller.proofs.ticking.closing.Statement.{statement}
 use Rattle.controller.proofs.ticking.closing.Tie as tie
 
-array-copy-out-words-of : tie.Need-array-copy-out-words-of
-array-copy-out-words-of c = search needs
+array-copy-out-pair-words : tie.Need-array-copy-out-pair-words
+array-copy-out-pair-words c = search needs
 
-words-of-requires : tie.Need-words-of-requires
-words-of-requires c κs = search needs
+pair-words-requires : tie.Need-pair-words-requires
+pair-words-requires c κs = search needs
 
 of-oldest-requires : tie.Need-of-oldest-requires
 of-oldest-requires c κs = search needs
@@ -31,14 +31,14 @@ count-left-requires c κs =
 
 returns : tie.Need-returns
 returns c = rw
-    (c .count-left .ensures, c .before .requests-left .ensures, c .before .before .remembered .ensures, c .before .before .before .of-oldest .ensures, c .before .before .before .before .words-of .ensures)
+    (c .count-left .ensures, c .before .requests-left .ensures, c .before .before .remembered .ensures, c .before .before .before .of-oldest .ensures, c .before .before .before .before .pair-words .ensures)
 
 pub closing-spec : {M : Type 1} → statement M
 closing-spec =
     tie.close
     (tie.spec
-    array-copy-out-words-of
-    words-of-requires
+    array-copy-out-pair-words
+    pair-words-requires
     of-oldest-requires
     add-t15
     remembered-requires

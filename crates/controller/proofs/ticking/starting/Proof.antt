@@ -6,19 +6,19 @@ use Rattle.controller.proofs.ticking.starting.Tie as tie
 opens-next-requires : tie.Need-opens-next-requires
 opens-next-requires c κs = search needs
 
-array-copy-out-words-of : tie.Need-array-copy-out-words-of
-array-copy-out-words-of c = search needs
+array-copy-out-pair-words : tie.Need-array-copy-out-pair-words
+array-copy-out-pair-words c = search needs
 
-words-of-requires : tie.Need-words-of-requires
-words-of-requires c κs = search needs
+pair-words-requires : tie.Need-pair-words-requires
+pair-words-requires c κs = search needs
 
 add-t12 : tie.Need-add-t12
 add-t12 c = search needs
 
 returns : tie.Need-returns
-returns c = rw (c .before .words-of .ensures, c .before .before .before .opens-next .ensures)
+returns c = rw (c .before .pair-words .ensures, c .before .before .before .opens-next .ensures)
 
 pub starting-spec : {M : Type 1} → statement M
 starting-spec =
     tie.close
-    (tie.spec opens-next-requires array-copy-out-words-of words-of-requires add-t12 returns)
+    (tie.spec opens-next-requires array-copy-out-pair-words pair-words-requires add-t12 returns)

@@ -1,7 +1,7 @@
 -- One case for each variant. Assumes nothing.
 use borrow.Author.Needs.{needs}
-use Rattle.controller.proofs.next.words_of.Statement.{statement}
-use Rattle.controller.proofs.next.words_of.Tie as tie
+use Rattle.controller.proofs.next.pair_words.Statement.{statement}
+use Rattle.controller.proofs.next.pair_words.Tie as tie
 
 enum-told : tie.Need-enum-told
 enum-told c = search needs
@@ -45,8 +45,8 @@ returns-4 c = rw (c .encode3 .ensures, c .before .enum-told4 .given .1)
 returns-5 : tie.Need-returns-5
 returns-5 c = rw (c .encode4 .ensures, c .before .enum-told5 .given .1)
 
-pub words-of-spec : {M : Type 1} → statement M
-words-of-spec =
+pub pair-words-spec : {M : Type 1} → statement M
+pair-words-spec =
     tie.close
     (tie.spec
     enum-told
