@@ -1,5 +1,6 @@
--- EitherForm: demand 3 for calls of either form. What proofs by hand have in common: Behind, a struct behind a `&mut`; Lending, a local
--- that is lent.
+-- EitherForm: demand 3 for calls of either form. Excluded: what wrong programs would give. What proofs by hand have in common: Behind, a
+-- struct behind a `&mut`; Lending, a local that is lent.
 pub mod EitherForm
+pub mod Excluded
 pub mod Behind
 pub mod Lending

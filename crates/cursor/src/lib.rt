@@ -8,8 +8,8 @@ use protocol::Verdict;
 use protocol::clock_fits;
 ghost use mathlib.Core.Path.{_≡_};
 ghost use mathlib.Core.List.{[]};
-ghost use Rattle.protocol.specs.Steps.{fresh, verdictOutcome};
-ghost use Rattle.cursor.specs.Walk.{progressOutcome, moved, ofWord, moveOf};
+ghost use Rattle.protocol.specs.Steps.{verdictOutcome};
+ghost use Rattle.cursor.specs.Walk.{progressOutcome, ofWord, moveOf, MovePromised, AdvancePromised, NewPromised};
 
 // The words stay the caller's; the clock that the walk has reached is the checker's.
 pub struct TraceCursor<'a> {
@@ -62,7 +62,7 @@ fn at_end(checker: Checker) -> Progress
 // Examines the word at the checker's clock: the configuration's refusals and 19, then end where no word is left, then 23 and 24. The
 // checker comes back, one clock on if the word passed.
 pub fn next_word(words: &[u32], checker: Checker) -> Moved
-    ensures { λ r. ⌜ moved r ≡ moveOf checker (now (words .entry)) ⌝ }
+    ensures { λ r. ⌜ MovePromised checker (now (words .entry)) r ⌝ }
 {
     let at = checker.clock as usize;
     if at < words.len() {
@@ -83,7 +83,7 @@ pub fn next_word(words: &[u32], checker: Checker) -> Moved
 
 // A fresh walk over the words, on any configuration.
 pub fn new<'a>(words: &'a [u32], config: Config) -> TraceCursor<'a>
-    ensures { λ r. ⌜ (r .words ≡ words .entry) × (r .checker ≡ fresh config) ⌝ }
+    ensures { λ r. ⌜ NewPromised (words .entry) config r ⌝ }
 {
     let checker = Checker::fresh(config);
     TraceCursor { words, checker }
@@ -91,8 +91,7 @@ pub fn new<'a>(words: &'a [u32], config: Config) -> TraceCursor<'a>
 
 // Examines one more word. The walk is left with the same words, and with the checker that `next_word` gives.
 pub fn advance<'s, 'a>(cursor: &'s mut TraceCursor<'a>) -> Progress
-    ensures { λ r. ⌜ (now (cursor .exit) .words ≡ now (cursor .entry) .words)
-        × (moved (record { progress = r; checker = now (cursor .exit) .checker }) ≡ moveOf (now (cursor .entry) .checker) (now (now (cursor .entry) .words))) ⌝ }
+    ensures { λ r. ⌜ AdvancePromised (now (cursor .entry)) r (now (cursor .exit)) ⌝ }
 {
     let moved = next_word(cursor.words, cursor.checker);
     cursor.checker = moved.checker;
@@ -101,7 +100,7 @@ pub fn advance<'s, 'a>(cursor: &'s mut TraceCursor<'a>) -> Progress
 
 // One advance of a walk over the words that has reached this checker, for callers that hold no cursor.
 pub fn advance_through(words: &[u32], reached: Checker) -> Moved
-    ensures { λ r. ⌜ moved r ≡ moveOf reached (now (words .entry)) ⌝ }
+    ensures { λ r. ⌜ MovePromised reached (now (words .entry)) r ⌝ }
 {
     let mut cursor = new(words, reached.config);
     cursor.checker = reached;

@@ -41,7 +41,7 @@ use denote.Triple.Table.{cited}
 use denote.Triple.Walked.{says, Stays, stay-ref, walkOf, goes-ref, ends-at}
 use denote.Triple.Clauses.{ensured, lasts}
 use Rattle.protocol.proofs.checker.Checker as K
-use Rattle.cursor.specs.Walk.{moved, moveOf}
+use Rattle.cursor.specs.Walk.{MovePromised}
 use Rattle.cursor.specs.declared.TraceCursor.{TraceCursor}
 use Rattle.cursor.specs.declared.Moved.{Moved}
 use Rattle.borrowed.proofs.Behind.{reached}
@@ -94,7 +94,7 @@ module _ {M : Type 1} (𝓤 : URA M) (H : Heap 𝓤) (A : Atoms 𝓤) (W : Given
   Own = Cursor κ′ .own h (cursorVal κ′ h ∷ [])
 
   abbrev Found : Moved → Type 0
-  Found m = moved m ≡ moveOf (h .checker) (now (h .words))
+  Found m = MovePromised (h .checker) (now (h .words)) m
 
   -- the struct afterwards
   abbrev h′ : Moved → TraceCursor

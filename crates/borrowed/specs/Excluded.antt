@@ -1,0 +1,42 @@
+-- What a wrong program would answer and leave at some state, which the contract of the call excludes.
+use Prim.Native.Nat.{ℕ}
+use lib.ListN.{replicate}
+use Rattle.config.specs.Configuration.{institute}
+use Rattle.controller.specs.States.{fresh}
+use Rattle.controller.specs.Steps.{joined, tickOf}
+use Rattle.controller.specs.declared.Controller.{Controller}
+use Rattle.controller.specs.declared.CallAnswer.{CallAnswer}
+use Rattle.controller.specs.declared.CallAnswer.the-variants.{Accepted}
+use Rattle.model.specs.Cases.{bank0Read}
+use Rattle.model.specs.Runs.{Call, offer, tick}
+use Rattle.borrowed.specs.EitherForm.{Form, Promised}
+
+-- no contract lets the call x on s answer so and leave `after`: not the borrowed form's, of `offer` and `tick`, and not the by-value form's,
+-- the equations of `offer_through` and `tick_through`
+abbrev pub Never : Controller → Call → CallAnswer → ℕ → Controller → Type 0
+Never s x answer word after = (form : Form) → Promised form s x answer word after → ⊥
+
+-- on sheet E: a fresh controller, one with sixteen waiting, and one at the last clock
+abbrev pub begun : Controller
+begun = fresh institute
+
+abbrev pub full : Controller
+full = record { config = institute; clock = 0; opened = begun .opened; stamps = begun .stamps; waiting = replicate 16 bank0Read; count = 16 }
+
+abbrev pub last : Controller
+last = record { config = institute; clock = 16777216; opened = begun .opened; stamps = begun .stamps; waiting = begun .waiting; count = 0 }
+
+-- Of each, whatever it answers, gives or leaves besides.
+pub record Excluded : Type 0 where
+  -- an offer that leaves the controller as it was, and one that is made twice
+  pub offer-lost : (a : CallAnswer) → Never begun (offer bank0Read) a 0 begun
+  pub offer-twice : (a : CallAnswer) → Never begun (offer bank0Read) a 0 (joined (joined begun bank0Read) bank0Read)
+  -- one that accepts a seventeenth request, and one that counts it
+  pub offer-seventeenth : (after : Controller) → Never full (offer bank0Read) Accepted 0 after
+  pub offer-refused-counted : (a : CallAnswer) → Never full (offer bank0Read) a 0 (joined full bank0Read)
+  -- a tick that leaves the controller as it was, and one that is made twice
+  pub tick-stays : (a : CallAnswer) (word : ℕ) → Never begun tick a word begun
+  pub tick-twice : (a : CallAnswer) (word : ℕ) → Never begun tick a word (tickOf (tickOf begun .after) .after)
+  -- one that is accepted past the last clock, and one that gives DESL there
+  pub tick-past-the-limit : (word : ℕ) (after : Controller) → Never last tick Accepted word after
+  pub tick-refused-desl : (a : CallAnswer) (after : Controller) → Never last tick a 0xC0000 after

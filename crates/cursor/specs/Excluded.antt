@@ -1,0 +1,36 @@
+-- What a wrong program would give on sheet E, which the contract of the call excludes.
+use Prim.Native.Nat.{ℕ}
+use mathlib.Core.Path.{_≡_}
+use mathlib.Core.List.{List, [], _∷_}
+use denote.Ref.{RefT, now}
+use Rattle.config.specs.Configuration.{institute}
+use Rattle.protocol.specs.Steps.{fresh}
+use Rattle.protocol.specs.declared.checker.Checker.{Checker}
+use Rattle.cursor.specs.Walk.{NewPromised, MovePromised, AdvancePromised}
+use Rattle.cursor.specs.declared.Progress.{Progress}
+use Rattle.cursor.specs.declared.Progress.the-variants.{End}
+use Rattle.cursor.specs.declared.TraceCursor.{TraceCursor}
+
+-- no contract lets an advance of a fresh walk over ws answer so and leave the checker `after`: not that of `advance_through`, and not that of
+-- `advance`, which promises the same of its checker
+abbrev pub Never : List ℕ → Progress → Checker → Type 0
+Never ws answer after = MovePromised (fresh institute) ws (record { progress = answer; checker = after }) → ⊥
+
+-- a word that passes at clock 0, DESL, and one that breaches, PD low
+abbrev pub passing : List ℕ
+passing = 0xC0000 ∷ []
+
+abbrev pub breaching : List ℕ
+breaching = 0x40000 ∷ []
+
+-- Of each, whatever it answers or leaves besides.
+pub record Excluded : Type 0 where
+  -- a new walk that starts at clock 1, and one that has no words
+  pub new-at-clock-1 : (words : RefT (List ℕ)) (r : TraceCursor) → r .checker .clock ≡ 1 → NewPromised words institute r → ⊥
+  pub new-without-words : (words : RefT (List ℕ)) (r : TraceCursor) → now words ≡ passing → now (r .words) ≡ [] → NewPromised words institute r → ⊥
+  -- an advance that stays at a word that passes, one that says end there, and one that goes past a breaching word
+  pub advance-stays : (p : Progress) → Never passing p (fresh institute)
+  pub advance-ends-early : (after : Checker) → Never passing End after
+  pub advance-past-a-breach : (p : Progress) (after : Checker) → after .clock ≡ 1 → Never breaching p after
+  -- one that gives the words of its walk up
+  pub advance-words-lost : (s after : TraceCursor) (p : Progress) → now (s .words) ≡ passing → now (after .words) ≡ [] → AdvancePromised s p after → ⊥
