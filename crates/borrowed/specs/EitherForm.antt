@@ -19,7 +19,7 @@ pub data Form : Type 0 where
   byValue : Form
   borrowed : Form
 
--- a call that was made: its answer, a tick's word (0 for an offer), and the controller afterwards
+-- a call that was made: its answer, a tick's word (of an offer it is not looked at), and the controller afterwards
 pub record Made : Type 0 where
   pub form : Form
   pub call : Call

@@ -1,4 +1,4 @@
-// The weight of each pin in a word, and the leaves that read and drive single pins.
+// The weight of each pin in a word: a pin is high where the word's quotient by it is odd. And the leaves that drive pins.
 ghost use mathlib.Core.Path.{_≡_};
 ghost use mathlib.Core.Bool.{cond};
 ghost use Prim.Native.Nat.{_≤_};

@@ -21,7 +21,7 @@ use Rattle.protocol.specs.Steps.{Step, fresh, clockFits, judged, refusing, step
 use Rattle.protocol.specs.Refinement.{follow, stepping, afterAll}
 use Rattle.protocol.specs.declared.checker.Checker.{Checker}
 use Rattle.protocol.proofs.Refinement.{refinement}
-use Rattle.cursor.specs.Walk.{Reached, ended, Move, staying, ofWord, examined, moveBy, moveOf, advanced, unless, walking, stopOf, Call, step, advance, afterCalls, Walk}
+use Rattle.cursor.specs.Walk.{Reached, ended, Move, staying, ofWord, examined, moveBy, moveOf, advanced, unless, walking, stopOf, CheckerCall, step, advance, afterCalls, Walk}
 
 -- an advance with a word left is a step on that word
 pub is-step : (o : Outcome Timing) (s : Checker) (ws : List ℕ) → s .clock < length ws → moveBy o s ws ≡ examined (stepBy o s (getD ws (s .clock) 0))
@@ -113,7 +113,7 @@ made-advanced : (c : Config) (n : ℕ) (s : Checker) (ws : List ℕ) → Made c 
 made-advanced c zero s ws m = m
 made-advanced c (suc n) s ws m = made-advanced c n (moveOf s ws .after) ws (made-move c s ws m)
 
-made-calls : (c : Config) (xs : List Call) (s : Checker) → Made c s → Made c (afterCalls s xs)
+made-calls : (c : Config) (xs : List CheckerCall) (s : Checker) → Made c s → Made c (afterCalls s xs)
 made-calls c [] s m = m
 made-calls c (step w ∷ xs) s m = made-calls c xs (stepOf s w .after) (made-step c s w m)
 made-calls c (advance ws ∷ xs) s m = made-calls c xs (moveOf s ws .after) (made-move c s ws m)
@@ -160,12 +160,12 @@ move-19 (value t) s ws e =
     go true true true false j e = absurd (refused-by (λ q. omega arith) e)
     go true true false l j e = absurd (refused-by (λ q. omega arith) e)
 
-never-19 : (c : Config) (xs : List Call) (ws : List ℕ) → moveOf (afterCalls (fresh c) xs) ws .outcome ≡ refused 19 → ⊥
+never-19 : (c : Config) (xs : List CheckerCall) (ws : List ℕ) → moveOf (afterCalls (fresh c) xs) ws .outcome ≡ refused 19 → ⊥
 never-19 c xs ws e =
     let s = afterCalls (fresh c) xs in
     step-19 c s (getD ws (s .clock) 0) (made-calls c xs (fresh c) (made-fresh c)) (move-19 (timingOf (s .config)) s ws e)
 
-step-never-19 : (c : Config) (xs : List Call) (w : ℕ) → stepOf (afterCalls (fresh c) xs) w .outcome ≡ refused 19 → ⊥
+step-never-19 : (c : Config) (xs : List CheckerCall) (w : ℕ) → stepOf (afterCalls (fresh c) xs) w .outcome ≡ refused 19 → ⊥
 step-never-19 c xs w = step-19 c (afterCalls (fresh c) xs) w (made-calls c xs (fresh c) (made-fresh c))
 
 -- the clock of a walk never passes its words

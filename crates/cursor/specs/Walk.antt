@@ -104,15 +104,15 @@ stopOf accepted = ended
 stopOf (breach k n) = breached k n
 
 -- a call on a state: one word is examined, or a walk over some words is advanced
-pub data Call : Type 0 where
-  step : ℕ → Call
-  advance : List ℕ → Call
+pub data CheckerCall : Type 0 where
+  step : ℕ → CheckerCall
+  advance : List ℕ → CheckerCall
 
-abbrev pub afterCall : Checker → Call → Checker
+abbrev pub afterCall : Checker → CheckerCall → Checker
 afterCall s (step w) = stepOf s w .after
 afterCall s (advance ws) = moveOf s ws .after
 
-abbrev pub afterCalls : Checker → List Call → Checker
+abbrev pub afterCalls : Checker → List CheckerCall → Checker
 afterCalls s [] = s
 afterCalls s (x ∷ xs) = afterCalls (afterCall s x) xs
 
@@ -127,5 +127,5 @@ pub record Walk : Type 0 where
   pub only-there : (c : Config) (ws : List ℕ) (n : ℕ) → moveOf (advanced n (fresh c) ws) ws .outcome ≡ value ended
       → advanced n (fresh c) ws .clock ≡ length ws
   -- "No state that calls make from a fresh one refuses 19."
-  pub never-19 : (c : Config) (xs : List Call) (ws : List ℕ) → moveOf (afterCalls (fresh c) xs) ws .outcome ≡ refused 19 → ⊥
-  pub step-never-19 : (c : Config) (xs : List Call) (w : ℕ) → stepOf (afterCalls (fresh c) xs) w .outcome ≡ refused 19 → ⊥
+  pub never-19 : (c : Config) (xs : List CheckerCall) (ws : List ℕ) → moveOf (afterCalls (fresh c) xs) ws .outcome ≡ refused 19 → ⊥
+  pub step-never-19 : (c : Config) (xs : List CheckerCall) (w : ℕ) → stepOf (afterCalls (fresh c) xs) w .outcome ≡ refused 19 → ⊥
