@@ -21,7 +21,7 @@ pub record Past : Type 0 where
 abbrev pub nothing : Past
 nothing = record { clock = 0; opened = none; pairs = [] }
 
--- "CS high with no pair open is DESL. CS low with no pair open opens a pair. The next word closes it."
+-- "CS high with no pair open is DESL. CS low with no pair open opens a pair … The next word closes it …"
 abbrev pub extendBy : Option ℕ → Past → ℕ → Past
 extendBy none p w = record { clock = p .clock + 1; opened = cond (opens w) (some w) none; pairs = p .pairs }
 extendBy (some first) p w =

@@ -121,8 +121,8 @@ rule12 t ps u first second =
     isRefresh first second && (leb 8 (length refs) && ltb (u + 1 - getD refs 7 0) (t .window))
 
 -- a rule that is judged at closing words alone
-abbrev pub closing : (Timing → List ClosedPair → ℕ → ℕ → ℕ → Bool) → Timing → Past → ℕ → Bool
-closing rule t p w = by (p .opened)
+abbrev pub atClosing : (Timing → List ClosedPair → ℕ → ℕ → ℕ → Bool) → Timing → Past → ℕ → Bool
+atClosing rule t p w = by (p .opened)
   where
     by : Option ℕ → Bool
     by none = false
@@ -133,15 +133,15 @@ rules =
     rule1
     ∷ rule2
     ∷ rule3
-    ∷ closing rule4
-    ∷ closing rule5
-    ∷ closing rule6
-    ∷ closing rule7
-    ∷ closing rule8
-    ∷ closing rule9
-    ∷ closing rule10
-    ∷ closing rule11
-    ∷ closing rule12
+    ∷ atClosing rule4
+    ∷ atClosing rule5
+    ∷ atClosing rule6
+    ∷ atClosing rule7
+    ∷ atClosing rule8
+    ∷ atClosing rule9
+    ∷ atClosing rule10
+    ∷ atClosing rule11
+    ∷ atClosing rule12
     ∷ []
 
 -- "Lowest number first": the place of the first test that holds, counted from n; 0 where none does

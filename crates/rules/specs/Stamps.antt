@@ -31,17 +31,17 @@ notReady extended regular secondLast k = eqb extended 0 || eqb regular 0 || eqb 
 
 -- rule 8, by RDA and LAL and the last read and the last write
 abbrev pub tooClose : Bool → Bool → Timing → ℕ → ℕ → ℕ → Bool
-tooClose rda lal t read write k =
-    lal && (near k read (t .rbd) || near k write (t .rbd))
-    || not rda && lal && near k read (t .rwd + 1)
-    || rda && lal && near k write (t .wrd + 1)
+tooClose isRda isLal t read write k =
+    isLal && (near k read (t .rbd) || near k write (t .rbd))
+    || not isRda && isLal && near k read (t .rwd + 1)
+    || isRda && isLal && near k write (t .wrd + 1)
 
 -- rule 11, by the same
 abbrev pub busy : Bool → Bool → Timing → ℕ → ℕ → ℕ → Bool
-busy rda lal t read write k =
-    not lal && (near k read (t .rc) || near k write (t .rc))
-    || rda && not lal && near k read (t .cl + t .bl / 2 + 1)
-    || rda && not lal && near k write (t .wl + t .bl / 2 + 1)
+busy isRda isLal t read write k =
+    not isLal && (near k read (t .rc) || near k write (t .rc))
+    || isRda && not isLal && near k read (t .cl + t .bl / 2 + 1)
+    || isRda && not isLal && near k write (t .wl + t .bl / 2 + 1)
 
 -- rules 4 to 12
 abbrev pub closingBreach : Timing → Timestamps → ℕ → ℕ → ℕ → ℕ
