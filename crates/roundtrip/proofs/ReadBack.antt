@@ -15,7 +15,7 @@ use Rattle.config.proofs.Bounds.{both}
 use Rattle.command.specs.Pins.{pins, high, put, drive, level}
 use Rattle.command.specs.Reading.{rda, lal, laneOf, accessOf, registerFits, modeFits, modeBy, modeWrong, laneReserved, soundPair, operationOf}
 use Rattle.command.specs.Writing.{lanesFit, operationFits, laneAt, pairOf}
-use Rattle.roundtrip.specs.Ignored.{Pins, row, only, always, firstPins, lanePins, writePins, secondPins, ignoredLow}
+use Rattle.roundtrip.specs.Ignored.{Pins, only, always, firstPins, lanePins, writePins, secondPins, ignoredLow}
 use Rattle.command.specs.declared.operation.Operation.{Operation}
 use Rattle.command.specs.declared.operation.Operation.the-variants.{Access, Regular, Extended, Refresh}
 use Rattle.command.specs.declared.operation.Pair.{Pair}
@@ -110,12 +110,11 @@ lane-word : (c : Config) → (c .bl ≡ 2) ⊎ (c .bl ≡ 4) → (n m s : ℕ) �
     → laneAt (derived c) n m (laneOf (derived c) (high n s) (high m s)) ≡ only (lanePins c n m) s
 lane-word c bl n m s u =
     let l = read (derived c) bl (high n s) (high m s) u in
-    rw (l .first, l .second, level-high n s, put-pins n 1 s) (go bl)
+    rw (l .first, l .second, level-high n s) (go bl)
   where
-    go : (c .bl ≡ 2) ⊎ (c .bl ≡ 4)
-        → pins n 1 s * 2 ^ n + drive m (eqb (c .bl) 4 && high m s) ≡ pins n 1 s * 2 ^ n + only (cond (eqb (c .bl) 4) (row m 1 ∷ []) []) s
-    go (inl e) = rw e (rw zero-mul)
-    go (inr e) = rw e (rw (level-high m s, put-pins m 1 s) (rw add-zero))
+    go : (c .bl ≡ 2) ⊎ (c .bl ≡ 4) → pins n 1 s * 2 ^ n + drive m (eqb (c .bl) 4 && high m s) ≡ only (lanePins c n m) s
+    go (inl e) = rw e (simp (put-pins, zero-mul))
+    go (inr e) = rw e (simp (level-high, put-pins, add-zero))
 
 module _ (c : Config) (bl : (c .bl ≡ 2) ⊎ (c .bl ≡ 4)) (f s : ℕ) (h : Sound (derived c) f s) where
   refresh-back : rda f ≡ false → lal s ≡ false → WritesTo (derived c) Refresh (ignoredLow c (record { first = f; second = s }))
