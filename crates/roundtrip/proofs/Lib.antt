@@ -5,4 +5,5 @@ pub mod Written
 pub mod WrittenBack
 pub mod SoundPair
 pub mod ReadBack
+pub mod IgnoredPins
 pub mod RoundTrip

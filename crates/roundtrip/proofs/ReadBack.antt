@@ -13,9 +13,9 @@ use Rattle.config.specs.declared.Config.{Config}
 use Rattle.config.specs.declared.Timing.{Timing}
 use Rattle.config.proofs.Bounds.{both}
 use Rattle.command.specs.Pins.{pins, high, put, drive, level}
-use Rattle.command.specs.Reading.{rda, lal, laneOf, accessOf, registerFits, modeFits, modeBy, modeWrong, laneReserved, soundPair, operationOf}
+use Rattle.command.specs.Reading.{rda, lal, columnOf, laneOf, accessOf, registerFits, modeFits, modeBy, modeWrong, laneReserved, soundPair, operationOf}
 use Rattle.command.specs.Writing.{lanesFit, operationFits, laneAt, pairOf}
-use Rattle.roundtrip.specs.Ignored.{Pins, row, only, always, firstPins, lanePins, writePins, secondPins, ignoredLow}
+use Rattle.roundtrip.specs.Ignored.{Pins, only, always, firstPins, columnWidth, lanePins, writePins, secondPins, ignoredLow}
 use Rattle.command.specs.declared.operation.Operation.{Operation}
 use Rattle.command.specs.declared.operation.Operation.the-variants.{Access, Regular, Extended, Refresh}
 use Rattle.command.specs.declared.operation.Pair.{Pair}
@@ -96,9 +96,10 @@ first-word f r e cs pd =
     total : (a b d : ℕ) → 524288 + a * 131072 + b * 16384 + d * 1 ≡ d * 1 + (b * 16384 + (a * 131072 + (0 * 262144 + (1 * 524288 + 0))))
     total a b d = omega arith
 
-column-word : (wide : Bool) (s : ℕ) → put 0 9 (cond wide (pins 0 8 s) (pins 0 9 s)) ≡ put 0 (cond wide 8 9) (pins 0 (cond wide 8 9) s)
-column-word true s = omega arith
-column-word false s = refl
+column-word : (c : Config) (wide : Bool) → eqb (c .organisation) 16 ≡ wide → (s : ℕ)
+    → put 0 9 (columnOf (derived c) s) ≡ put 0 (columnWidth c) (pins 0 (columnWidth c) s)
+column-word c true w s = rw w (omega arith)
+column-word c false w s = rw w
 
 column-fits : (wide : Bool) (s : ℕ)
     → (leb (cond wide (pins 0 8 s) (pins 0 9 s)) 255 || not wide && leb (cond wide (pins 0 8 s) (pins 0 9 s)) 511) ≡ true
@@ -110,19 +111,18 @@ lane-word : (c : Config) → (c .bl ≡ 2) ⊎ (c .bl ≡ 4) → (n m s : ℕ) �
     → laneAt (derived c) n m (laneOf (derived c) (high n s) (high m s)) ≡ only (lanePins c n m) s
 lane-word c bl n m s u =
     let l = read (derived c) bl (high n s) (high m s) u in
-    rw (l .first, l .second, level-high n s, put-pins n 1 s) (go bl)
+    rw (l .first, l .second, level-high n s) (go bl)
   where
-    go : (c .bl ≡ 2) ⊎ (c .bl ≡ 4)
-        → pins n 1 s * 2 ^ n + drive m (eqb (c .bl) 4 && high m s) ≡ pins n 1 s * 2 ^ n + only (cond (eqb (c .bl) 4) (row m 1 ∷ []) []) s
-    go (inl e) = rw e (rw zero-mul)
-    go (inr e) = rw e (rw (level-high m s, put-pins m 1 s) (rw add-zero))
+    go : (c .bl ≡ 2) ⊎ (c .bl ≡ 4) → pins n 1 s * 2 ^ n + drive m (eqb (c .bl) 4 && high m s) ≡ only (lanePins c n m) s
+    go (inl e) = rw e (simp (put-pins, zero-mul))
+    go (inr e) = rw e (simp (level-high, put-pins, add-zero))
 
 module _ (c : Config) (bl : (c .bl ≡ 2) ⊎ (c .bl ≡ 4)) (f s : ℕ) (h : Sound (derived c) f s) where
   refresh-back : rda f ≡ false → lal s ≡ false → WritesTo (derived c) Refresh (ignoredLow c (record { first = f; second = s }))
   refresh-back r l =
       let r′ = not-high 17 f r in
       let l′ = not-high 18 s l in
-      (refl, rw (r, l) (pair-path (omega arith) (omega arith)))
+      (refl, rw (r, l) (pair-path (simp (r′, h .cs, h .pd₁)) (simp (l′, h .pd₂))))
 
   mode-fits : rda f ≡ true → lal s ≡ false → modeFits (derived c) s ≡ true
   mode-fits r l = not-false (modeFits (derived c) s) (rw (r, l) at (h .mode))
@@ -149,7 +149,7 @@ module _ (c : Config) (bl : (c .bl ≡ 2) ⊎ (c .bl ≡ 4)) (f s : ℕ) (h : So
       let fields = both (eqb (pins 0 3 s) (c .bl / 2)) (eqb (pins 4 3 s) (c .cl)) (rw e at (g .register)) in (
         refl,
         rw (r, l)
-            (pair-path (omega arith)
+            (pair-path (simp (r′, h .cs, h .pd₁))
             (rw (← eqb-true (pins 4 3 s) (c .cl) (fields .1), ← eqb-true (pins 0 3 s) (c .bl / 2) (fields .0), level-high 3 s)
             (regular-word s (not-high 14 s e) ∙ sym (mode-word c s (g .ba) (g .a7) (not-high 18 s l) (h .pd₂))))),
       )
@@ -162,7 +162,7 @@ module _ (c : Config) (bl : (c .bl ≡ 2) ⊎ (c .bl ≡ 4)) (f s : ℕ) (h : So
       let a0 = not-high 0 s (not-true (high 0 s) (rw e at (g .register))) in (
         le-leb (pins 1 6 s) 63 (le-pred-of-lt (mod-lt (s / 2) (lit< tt))),
         rw (r, l)
-            (pair-path (omega arith)
+            (pair-path (simp (r′, h .cs, h .pd₁))
             (extended-word s (is-high 14 s e) a0 ∙ sym (mode-word c s (g .ba) (g .a7) (not-high 18 s l) (h .pd₂)))),
       )
 
@@ -181,7 +181,7 @@ module _ (c : Config) (bl : (c .bl ≡ 2) ⊎ (c .bl ≡ 4)) (f s : ℕ) (h : So
         rw (bank-fits, column-fits wide s),
         rw (r, l)
             (pair-path (first-word f true r (h .cs) (h .pd₁))
-            (rw (column-word wide s, always-word s (is-high 18 s l) (h .pd₂)) (omega arith))),
+            (rw (column-word c wide refl s, always-word s (is-high 18 s l) (h .pd₂)) (omega arith))),
       )
 
   -- the lanes of a write, by 8 and by 16: in range, and written back
@@ -216,7 +216,7 @@ module _ (c : Config) (bl : (c .bl ≡ 2) ⊎ (c .bl ≡ 4)) (f s : ℕ) (h : So
         rw (bank-fits, column-fits wide s) (lanes .0),
         rw (r, l)
             (pair-path (first-word f false r (h .cs) (h .pd₁))
-            (rw (column-word wide s, only-append (writePins c) always s, always-word s (is-high 18 s l) (h .pd₂), ← lanes .1) (regroup 786432 _ _ _))),
+            (rw (column-word c wide refl s, only-append (writePins c) always s, always-word s (is-high 18 s l) (h .pd₂), ← lanes .1) (regroup 786432 _ _ _))),
       )
 
   by-mode : rda f ≡ true → lal s ≡ false → (extended : Bool) → high 14 s ≡ extended

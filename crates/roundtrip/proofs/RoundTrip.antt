@@ -1,12 +1,15 @@
 -- Reading and writing are each other's inverse: an accepted configuration has one of two burst lengths and one of three latencies,
--- for which WrittenBack and ReadBack have the two halves. Assumes nothing.
-use mathlib.Core.Path.{_≡_, ap, subst}
-use Rattle.config.specs.Outcome.{value, require}
-use Rattle.config.specs.Configuration.{derived}
+-- for which WrittenBack and ReadBack have the two halves, and IgnoredPins that a refused pair stays one. Assumes nothing.
+use mathlib.Core.Path.{_≡_, refl, sym, subst, _∙_}
+use mathlib.Core.Bool.{Bool, true, false, _||_}
+use Rattle.config.specs.Outcome.{Outcome, value, refused, require}
+use Rattle.config.specs.Configuration.{derived, timingOf}
 use Rattle.config.specs.declared.Config.{Config}
+use Rattle.config.specs.declared.Timing.{Timing}
 use Rattle.config.proofs.Outcomes.{require-value}
 use Rattle.config.proofs.Bounds.{cl-bounds, bl-cases}
-use Rattle.config.proofs.Accepted.{behind, timing-is}
+use Rattle.config.proofs.Accepted.{Accepted, accepted, behind, timing-is}
+use Rattle.command.specs.Pins.{strayBit}
 use Rattle.command.specs.Reading.{soundPair, operationOf, readPair}
 use Rattle.command.specs.Writing.{operationFits, pairOf, writePair}
 use Rattle.roundtrip.specs.Ignored.{ignoredLow}
@@ -15,6 +18,7 @@ use Rattle.command.specs.declared.operation.Operation.{Operation}
 use Rattle.command.specs.declared.operation.Pair.{Pair}
 use Rattle.roundtrip.proofs.WrittenBack.{written-back}
 use Rattle.roundtrip.proofs.ReadBack.{back, sound}
+use Rattle.roundtrip.proofs.IgnoredPins.{ignored-low}
 
 written : (c : Config) (o : Operation) (p : Pair) → writePair c o ≡ value p → readPair c p ≡ value o
 written c o p e =
@@ -34,5 +38,19 @@ read c p o e =
     let is : operationOf t (p .first) (p .second) ≡ o = cc (r .1) in
     subst (λ o. writePair c o ≡ value (ignoredLow c p)) is (rw (timing-is c (h .0), w .0, w .1))
 
+-- a sound pair by the two halves; one that is not sound, is not with its ignored pins low
+ignored : (c : Config) (p : Pair) → (strayBit (p .first) || strayBit (p .second)) ≡ false → readPair c p ≡ readPair c (ignoredLow c p)
+ignored c p stray = by-config (timingOf c) refl
+  where
+    by-test : Accepted c → (b : Bool) → soundPair (derived c) (p .first) (p .second) ≡ b → readPair c p ≡ readPair c (ignoredLow c p)
+    by-test a true e =
+        let r : readPair c p ≡ value (operationOf (derived c) (p .first) (p .second)) = rw (timing-is c a, e) in
+        r ∙ sym (written c _ _ (read c p _ r))
+    by-test a false e = rw (timing-is c a, ignored-low c (bl-cases c (a .part)) (p .first) (p .second) stray, e)
+
+    by-config : (x : Outcome Timing) → timingOf c ≡ x → readPair c p ≡ readPair c (ignoredLow c p)
+    by-config (value t) e = by-test (accepted c t e .0) (soundPair (derived c) (p .first) (p .second)) refl
+    by-config (refused n) e = rw e
+
 pub round-trip : RoundTrip
-round-trip = record { written-reads-back = written; read-writes-back = read }
+round-trip = record { written-reads-back = written; read-writes-back = read; ignored-when-read = ignored }

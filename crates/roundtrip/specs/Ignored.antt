@@ -30,6 +30,10 @@ abbrev pub firstPins : Bool → List Pins
 firstPins true = row 0 14 ∷ row 14 3 ∷ row 17 1 ∷ always
 firstPins false = row 17 1 ∷ always
 
+-- the column's pins: "A0 to A7 by 16, A0 to A8 by 8"
+abbrev pub columnWidth : Config → ℕ
+columnWidth c = cond (eqb (c .organisation) 16) 8 9
+
 -- a lane's VW0, and at BL 4 its VW1
 abbrev pub lanePins : Config → ℕ → ℕ → List Pins
 lanePins c vw0 vw1 = row vw0 1 ∷ cond (eqb (c .bl) 4) (row vw1 1 ∷ []) []
@@ -40,8 +44,8 @@ writePins c = lanePins c 16 13 ++ cond (eqb (c .organisation) 16) (lanePins c 12
 
 -- the second word, by RDA and LAL: a read's, a write's, a mode's and a refresh's
 abbrev pub secondPins : Bool → Bool → Config → List Pins
-secondPins true true c = row 0 (cond (eqb (c .organisation) 16) 8 9) ∷ always
-secondPins false true c = row 0 (cond (eqb (c .organisation) 16) 8 9) ∷ writePins c ++ always
+secondPins true true c = row 0 (columnWidth c) ∷ always
+secondPins false true c = row 0 (columnWidth c) ∷ writePins c ++ always
 secondPins true false c = row 0 14 ∷ row 14 3 ∷ always
 secondPins false false c = always
 

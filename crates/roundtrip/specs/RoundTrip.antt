@@ -1,7 +1,9 @@
--- Reading and writing are each other's inverse, over all configurations.
+-- Reading and writing are each other's inverse, and no ignored pin changes what is read, over all configurations.
 use mathlib.Core.Path.{_≡_}
+use mathlib.Core.Bool.{false, _||_}
 use Rattle.config.specs.Outcome.{value}
 use Rattle.config.specs.declared.Config.{Config}
+use Rattle.command.specs.Pins.{strayBit}
 use Rattle.command.specs.Reading.{readPair}
 use Rattle.command.specs.Writing.{writePair}
 use Rattle.roundtrip.specs.Ignored.{ignoredLow}
@@ -13,3 +15,5 @@ pub record RoundTrip : Type 0 where
   pub written-reads-back : (c : Config) (o : Operation) (p : Pair) → writePair c o ≡ value p → readPair c p ≡ value o
   -- a pair that reads as an operation is written back as the same pair with every ignored pin low
   pub read-writes-back : (c : Config) (p : Pair) (o : Operation) → readPair c p ≡ value o → writePair c o ≡ value (ignoredLow c p)
+  -- "Pins not named are ignored when read": a pair with no bit above 19 is read, or refused, as the same pair with every ignored pin low
+  pub ignored-when-read : (c : Config) (p : Pair) → (strayBit (p .first) || strayBit (p .second)) ≡ false → readPair c p ≡ readPair c (ignoredLow c p)
