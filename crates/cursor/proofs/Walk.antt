@@ -16,7 +16,7 @@ use Rattle.config.specs.declared.Config.{Config}
 use Rattle.config.specs.declared.Timing.{Timing}
 use Rattle.config.proofs.Outcomes.{refused-value, same-number}
 use Rattle.config.proofs.Accepted.{config-19}
-use Rattle.rules.specs.Verdict.{Judgement, accepted, breach, judge}
+use Rattle.rules.specs.Verdict.{Judgement, accepted, breach}
 use Rattle.rules.specs.Stamps.{wordBreach}
 use Rattle.protocol.specs.Steps.{Step, fresh, clockFits, refusing, stepBy, stepOf}
 use Rattle.protocol.specs.Refinement.{follow, stepping, afterAll}
@@ -24,14 +24,14 @@ use Rattle.protocol.specs.declared.checker.Checker.{Checker}
 use Rattle.protocol.proofs.Refinement.{refinement}
 use Rattle.cursor.specs.Walk.{Reached, ended, Move, staying, ofWord, examined, atEnd, moveOf, advanced, unless, walking, stopOf, CheckerCall, step, advance, afterCalls, Walk}
 
--- an advance by its two cases
+-- what holds of an examined word, and where none is left, holds of an advance
 move-case : (P : Move → Type 0) (s : Checker) (ws : List ℕ) → (s .clock < length ws → P (examined (stepOf s (getD ws (s .clock) 0))))
     → (length ws ≤ s .clock → P (staying s (atEnd s))) → P (moveOf s ws)
 move-case P s ws word end = go (ltb (s .clock) (length ws)) refl
   where
     go : (b : Bool) → ltb (s .clock) (length ws) ≡ b → P (cond b (examined (stepOf s (getD ws (s .clock) 0))) (staying s (atEnd s)))
-    go true e = word (ltb-true (s .clock) (length ws) e)
-    go false e = end (ltb-false (s .clock) (length ws) e)
+    go true e = word (ltb-true _ _ e)
+    go false e = end (ltb-false _ _ e)
 
 -- what a step leaves alone: the configuration, and the clock but for one word that passes
 record Kept (s : Checker) (r : Step) : Type 0 where
@@ -63,28 +63,30 @@ kept-step : (s : Checker) (w : ℕ) → Kept s (stepOf s w)
 kept-step s w = kept-by (timingOf (s .config)) s w
 
 -- what every advance keeps, a walk keeps
-advanced-keeps : (P : Checker → Type 0) (ws : List ℕ) → ((s : Checker) → P s → P (moveOf s ws .after)) → (n : ℕ) (s : Checker) → P s → P (advanced n s ws)
+advanced-keeps : (P : Checker → Type 0) (ws : List ℕ) → ((s : Checker) → P s → P (moveOf s ws .after))
+    → (n : ℕ) (s : Checker) → P s → P (advanced n s ws)
 advanced-keeps P ws one zero s h = h
 advanced-keeps P ws one (suc n) s h = advanced-keeps P ws one n (moveOf s ws .after) (one s h)
 
--- its clock is never past its words
+-- as that its clock is not past its words
 within : (ws : List ℕ) (s : Checker) → s .clock ≤ length ws → moveOf s ws .after .clock ≤ length ws
 within ws s h =
     move-case (λ r. r .after .clock ≤ length ws) s ws
     (λ l. let k = kept-step s (getD ws (s .clock) 0) .clock in omega arith)
     (λ _. h)
 
--- what an examined word can answer
-word-refused : (o : Outcome Judgement) (n : ℕ) → ofWord o ≡ refused n → o ≡ refused n
-word-refused (value accepted) n e = cc
-word-refused (value (breach k m)) n e = cc
-word-refused (refused m) n e = cc
+-- an examined word is refused as the step refuses it, and never says end
+word-refused : (o : Outcome Judgement) {n : ℕ} → ofWord o ≡ refused n → o ≡ refused n
+word-refused (value accepted) e = cc
+word-refused (value (breach k n)) e = cc
+word-refused (refused n) e = cc
 
 word-ends : (o : Outcome Judgement) → ofWord o ≡ value ended → ⊥
 word-ends (value accepted) e = let z : _≡_ {A = ℕ} 0 1 = cc in omega arith
 word-ends (value (breach k n)) e = let z : _≡_ {A = ℕ} 0 1 = cc in omega arith
 word-ends (refused n) e = refused-value e
 
+-- a turn of a walk is one of stepping, if the turns after a word that passed are
 abbrev stopped : Outcome Judgement → Outcome Reached
 stopped (value j) = value (stopOf j)
 stopped (refused n) = refused n
@@ -129,22 +131,22 @@ module _ (c : Config) where
   step-19 : (s : Checker) (w : ℕ) → Made s → stepOf s w .outcome ≡ refused 19 → ⊥
   step-19 s w m e = refinement .never-19 c (m .words) w (ap (λ x. stepOf x w .outcome) (sym (m .is)) ∙ e)
 
-  ends : (t : Timing) (s : Checker) → timingOf (s .config) ≡ value t → Made s → atEnd s ≡ value ended
+  ends : (t : Timing) (s : Checker) → timingOf c ≡ value t → Made s → atEnd s ≡ value ended
   ends t s e m = go (clockFits (s .clock) (s .first) (s .stamps)) refl
     where
       go : (b : Bool) → clockFits (s .clock) (s .first) (s .stamps) ≡ b → atEnd s ≡ value ended
-      go true f = rw (e, f)
-      go false f = absurd (step-19 s 0 m (rw (e, f)))
+      go true f = rw (m .config, e, f)
+      go false f = absurd (step-19 s 0 m (rw (m .config, e, f)))
 
   move-19 : (s : Checker) (ws : List ℕ) → Made s → moveOf s ws .outcome ≡ refused 19 → ⊥
   move-19 s ws m =
       move-case (λ r. r .outcome ≡ refused 19 → ⊥) s ws
-      (λ _ e. step-19 s (getD ws (s .clock) 0) m (word-refused (stepOf s (getD ws (s .clock) 0) .outcome) 19 e))
-      (λ _. go (timingOf (s .config)) refl)
+      (λ _ e. step-19 s (getD ws (s .clock) 0) m (word-refused _ e))
+      (λ _. go (timingOf c) refl)
     where
-      go : (o : Outcome Timing) → timingOf (s .config) ≡ o → atEnd s ≡ refused 19 → ⊥
+      go : (o : Outcome Timing) → timingOf c ≡ o → atEnd s ≡ refused 19 → ⊥
       go (value t) q e = refused-value (sym e ∙ ends t s q m)
-      go (refused n) q e = config-19 (s .config) (q ∙ ap refused (same-number (rw q at e)))
+      go (refused n) q e = config-19 c (q ∙ ap refused (same-number (rw (m .config, q) at e)))
 
   -- advancing from a clock on is stepping over the words from there
   module _ (t : Timing) (e : timingOf c ≡ value t) (ws : List ℕ) where
@@ -157,7 +159,7 @@ module _ (c : Config) where
         (word-turns (stepOf s w .outcome) (walking n s′ ws) (stepping s′ (drop (suc (s .clock)) ws))
         (λ q. let p : s′ .clock ≡ suc (s .clock) = kept-step s w .passes q ∙ add-one (s .clock) in
         rw (← p) (walking-is n s′ (made-step s w m) (omega arith) (omega arith)))))
-        (λ k. rw (ends t s (ap timingOf (m .config) ∙ e) m, drop-of-length-le ws k))
+        (λ k. rw (ends t s e m, drop-of-length-le ws k))
       where
         w : ℕ
         w = getD ws (s .clock) 0
@@ -172,8 +174,9 @@ walk =
       end-there =
           λ c t ws n e h.
           let s = advanced n (fresh c) ws in
-          let m : Made c s = advanced-keeps (Made c) ws (made-move c ws) n (fresh c) (made-fresh c) in
-          move-case (λ r. r .outcome ≡ value ended) s ws (λ l. absurd (omega arith)) (λ _. ends c t s (ap timingOf (m .config) ∙ e) m);
+          move-case (λ r. r .outcome ≡ value ended) s ws
+          (λ l. absurd (omega arith))
+          (λ _. ends c t s e (advanced-keeps (Made c) ws (made-move c ws) n (fresh c) (made-fresh c)));
       only-there =
           λ c ws n.
           let s = advanced n (fresh c) ws in

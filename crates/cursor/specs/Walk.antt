@@ -57,7 +57,7 @@ examined r = record { outcome = ofWord (r .outcome); after = r .after }
 abbrev pub atEnd : Checker → Outcome Reached
 atEnd s = given (timingOf (s .config)) (λ _. require (clockFits (s .clock) (s .first) (s .stamps)) 19 (value ended))
 
--- "each move examines one more": the word at the clock, as a step examines it
+-- "each move examines one more": the word at the clock, as a step examines it, refusals included
 abbrev pub moveOf : Checker → List ℕ → Move
 moveOf s ws = cond (ltb (s .clock) (length ws)) (examined (stepOf s (getD ws (s .clock) 0))) (staying s (atEnd s))
 
