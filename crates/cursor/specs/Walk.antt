@@ -4,15 +4,15 @@ use mathlib.Core.Path.{_≡_}
 use mathlib.Core.Bool.{cond}
 use mathlib.Core.List.{List, [], _∷_}
 use lib.ListN.{length, getD}
-use lib.Dec.{eqb, ltb}
+use lib.Dec.{ltb}
 use denote.Ref.{RefT, now}
-use Rattle.config.specs.Outcome.{Outcome, value, refused}
+use Rattle.config.specs.Outcome.{Outcome, value, refused, require, given}
 use Rattle.config.specs.Numbers.{refusalNumber}
 use Rattle.config.specs.Configuration.{timingOf}
 use Rattle.config.specs.declared.Config.{Config}
 use Rattle.config.specs.declared.Timing.{Timing}
 use Rattle.rules.specs.Verdict.{Judgement, accepted, breach, judge}
-use Rattle.protocol.specs.Steps.{Step, fresh, clockFits, judged, stepOf}
+use Rattle.protocol.specs.Steps.{Step, fresh, clockFits, stepOf}
 use Rattle.protocol.specs.declared.checker.Checker.{Checker}
 use Rattle.cursor.specs.declared.Moved.{Moved}
 use Rattle.cursor.specs.declared.Progress.{Progress}
@@ -53,21 +53,13 @@ ofWord (refused n) = refused n
 abbrev pub examined : Step → Move
 examined r = record { outcome = ofWord (r .outcome); after = r .after }
 
--- "Examiner step and walk: 23 state already in breach; 24 clock 16,777,216 reached … A walk with no word left says end and stays, ahead
--- of 23 and 24." The sheet's refusals and 19 come first; what is judged is the word at the clock.
-abbrev pub moveBy : Outcome Timing → Checker → List ℕ → Move
-moveBy (refused n) s ws = staying s (refused n)
-moveBy (value t) s ws =
-    cond (clockFits (s .clock) (s .first) (s .stamps))
-    (cond (ltb (s .clock) (length ws))
-    (cond (eqb (s .breach .number) 0)
-    (cond (ltb (s .clock) 16777216) (examined (judged t s (getD ws (s .clock) 0))) (staying s (refused 24)))
-    (staying s (refused 23)))
-    (staying s (value ended)))
-    (staying s (refused 19))
+-- "A walk with no word left says end and stays, ahead of 23 and 24": the sheet's refusals and 19 come first.
+abbrev pub atEnd : Checker → Outcome Reached
+atEnd s = given (timingOf (s .config)) (λ _. require (clockFits (s .clock) (s .first) (s .stamps)) 19 (value ended))
 
+-- "each move examines one more": the word at the clock, as a step examines it, refusals included
 abbrev pub moveOf : Checker → List ℕ → Move
-moveOf s ws = moveBy (timingOf (s .config)) s ws
+moveOf s ws = cond (ltb (s .clock) (length ws)) (examined (stepOf s (getD ws (s .clock) 0))) (staying s (atEnd s))
 
 -- what the contracts of `next_word` and `advance_through` say of the result r
 abbrev pub MovePromised : Checker → List ℕ → Moved → Type 0

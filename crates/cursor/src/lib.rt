@@ -7,9 +7,8 @@ use protocol::Checker;
 use protocol::Verdict;
 use protocol::clock_fits;
 ghost use mathlib.Core.Path.{_≡_};
-ghost use mathlib.Core.List.{[]};
 ghost use Rattle.protocol.specs.Steps.{verdictOutcome};
-ghost use Rattle.cursor.specs.Walk.{progressOutcome, ofWord, moveOf, MovePromised, AdvancePromised, NewPromised};
+ghost use Rattle.cursor.specs.Walk.{progressOutcome, ofWord, atEnd, MovePromised, AdvancePromised, NewPromised};
 
 // The words stay the caller's; the clock that the walk has reached is the checker's.
 pub struct TraceCursor<'a> {
@@ -43,7 +42,7 @@ fn of_word(verdict: Verdict) -> Progress
 
 // What an advance answers with no word left.
 fn at_end(checker: Checker) -> Progress
-    ensures { λ r. ⌜ progressOutcome r ≡ moveOf checker [] .outcome ⌝ }
+    ensures { λ r. ⌜ progressOutcome r ≡ atEnd checker ⌝ }
 {
     let config = checker.config;
     let stamps = checker.stamps;

@@ -1,6 +1,4 @@
 -- The configuration's refusal, 19, or end. Assumes nothing.
-use native.Mathlib.Omega.{arith}
-use borrow.Author.Tests.{le-ltb}
 use borrow.Author.Needs.{needs}
 use Rattle.cursor.proofs.at_end.Statement.{statement}
 use Rattle.cursor.proofs.at_end.Tie as tie
@@ -21,7 +19,7 @@ returns : tie.Need-returns
 returns c = rw (← c .before .before .before .timing .ensures, c .before .why .given .1)
 
 returns-2 : tie.Need-returns-2
-returns-2 c = rw (← c .before .before .before .before .timing .ensures, c .before .before .enum-told .given .1, ← c .before .clock-fits .ensures, c .if1 .taken, le-ltb (c .before .before .before .before .before .before .before .args .checker .clock) 0 (omega arith))
+returns-2 c = rw (← c .before .before .before .before .timing .ensures, c .before .before .enum-told .given .1, ← c .before .clock-fits .ensures, c .if1 .taken)
 
 returns-3 : tie.Need-returns-3
 returns-3 c = rw (← c .before .before .before .before .timing .ensures, c .before .before .enum-told .given .1, ← c .before .clock-fits .ensures, c .if1 .left)

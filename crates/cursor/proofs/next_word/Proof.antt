@@ -1,8 +1,6 @@
 -- A step on the word at the clock, or what is answered with no word left. Assumes nothing.
 use borrow.Author.Needs.{needs}
-use denote.Ref.{now}
-use Rattle.config.specs.Configuration.{timingOf}
-use Rattle.cursor.proofs.Walk.{is-step, is-end}
+use borrow.Author.Tests.{lt-ltb, le-ltb}
 use Rattle.cursor.proofs.next_word.Statement.{statement}
 use Rattle.cursor.proofs.next_word.Tie as tie
 
@@ -25,14 +23,10 @@ at-end-requires : tie.Need-at-end-requires
 at-end-requires c κs = search needs
 
 returns : tie.Need-returns
-returns c =
-    let a = c .before .before .before .before .before .before .before .args in
-    rw (is-step (timingOf (a .checker .config)) (a .checker) (now (a .words)) (c .before .before .before .before .if1 .taken), ← c .before .before .step .ensures, c .of-word .ensures)
+returns c = rw (lt-ltb _ _ (c .before .before .before .before .if1 .taken), ← c .before .before .step .ensures, c .of-word .ensures)
 
 returns-2 : tie.Need-returns-2
-returns-2 c =
-    let a = c .before .before .before .before .args in
-    rw (is-end (timingOf (a .checker .config)) (a .checker) (now (a .words)) (c .before .if1 .left), c .at-end .ensures)
+returns-2 c = rw (le-ltb _ _ (c .before .if1 .left), c .at-end .ensures)
 
 pub next-word-spec : {M : Type 1} → statement M
 next-word-spec =
