@@ -49,6 +49,7 @@ ticked r = record { outcome = callOutcome (r .answer); word = r .word; after = r
 abbrev pub held : Controller → List Request
 held s = take (s .count) (s .waiting)
 
+-- every field of these requests is in its range
 abbrev pub allFit : Timing → List Request → Bool
 allFit t [] = true
 allFit t (r ∷ rs) = requestFits t r && allFit t rs
@@ -61,6 +62,7 @@ pairWords t Regular request = pairOf t (RegularMode false)
 pairWords t Refresh request = pairOf t Refreshing
 pairWords t Oldest request = pairOf t (Access request)
 
+-- a pair is open, and it is that of the oldest request
 abbrev pub isOpen : OpenPair → Bool
 isOpen Nothing = false
 isOpen Extended = true
@@ -101,13 +103,18 @@ joined s r =
 abbrev pub notOffered : Controller → ℕ → Offer
 notOffered s n = record { outcome = refused n; after = s }
 
+-- refused by n, unless the test holds
+abbrev pub offerIf : Bool → ℕ → Controller → Offer → Offer
+offerIf holds n s rest = cond holds rest (notOffered s n)
+
 -- "Offer …: 26 a field out of range; offer then 27 sixteen wait. Unchanged". The sheet's refusals and 19 come first.
 abbrev pub offerBy : Outcome Timing → Controller → Request → Offer
 offerBy (refused n) s r = notOffered s n
 offerBy (value t) s r =
-    cond (stateFits t s)
-    (cond (requestFits t r) (cond (ltb (s .count) 16) (record { outcome = value tt; after = joined s r }) (notOffered s 27)) (notOffered s 26))
-    (notOffered s 19)
+    offerIf (stateFits t s) 19 s
+    (offerIf (requestFits t r) 26 s
+    (offerIf (ltb (s .count) 16) 27 s
+    (record { outcome = value tt; after = joined s r })))
 
 abbrev pub offerOf : Controller → Request → Offer
 offerOf s r = offerBy (timingOf (s .config)) s r
@@ -178,13 +185,17 @@ closing t s =
 abbrev pub notTicked : Controller → ℕ → Tick
 notTicked s n = record { outcome = refused n; word = 0; after = s }
 
+-- refused by n, unless the test holds
+abbrev pub tickIf : Bool → ℕ → Controller → Tick → Tick
+tickIf holds n s rest = cond holds rest (notTicked s n)
+
 -- "Tick: 24 as above." The sheet's refusals and 19 come first.
 abbrev pub tickBy : Outcome Timing → Controller → Tick
 tickBy (refused n) s = notTicked s n
 tickBy (value t) s =
-    cond (stateFits t s)
-    (cond (ltb (s .clock) 16777216) (cond (isOpen (s .opened)) (closing t s) (starting t s)) (notTicked s 24))
-    (notTicked s 19)
+    tickIf (stateFits t s) 19 s
+    (tickIf (ltb (s .clock) 16777216) 24 s
+    (cond (isOpen (s .opened)) (closing t s) (starting t s)))
 
 abbrev pub tickOf : Controller → Tick
 tickOf s = tickBy (timingOf (s .config)) s

@@ -51,6 +51,7 @@ eightBefore k cs =
     && before k (getD cs 6 0)
     && before k (getD cs 7 0)
 
+-- every event that is remembered lies before clock k
 abbrev pub stampsBefore : ℕ → Timestamps → Bool
 stampsBefore k s =
     before k (s .extended)
@@ -98,15 +99,18 @@ judged t s w =
 abbrev pub refusing : Checker → ℕ → Step
 refusing s n = record { outcome = refused n; after = s }
 
+-- refused by n, unless the test holds
+abbrev pub stepIf : Bool → ℕ → Checker → Step → Step
+stepIf holds n s rest = cond holds rest (refusing s n)
+
 -- "Examiner step and walk: 23 state already in breach; 24 clock 16,777,216 reached." The sheet's refusals and 19 come first.
 abbrev pub stepBy : Outcome Timing → Checker → ℕ → Step
 stepBy (refused n) s w = refusing s n
 stepBy (value t) s w =
-    cond (clockFits (s .clock) (s .first) (s .stamps))
-    (cond (eqb (s .breach .number) 0)
-    (cond (ltb (s .clock) 16777216) (judged t s w) (refusing s 24))
-    (refusing s 23))
-    (refusing s 19)
+    stepIf (clockFits (s .clock) (s .first) (s .stamps)) 19 s
+    (stepIf (eqb (s .breach .number) 0) 23 s
+    (stepIf (ltb (s .clock) 16777216) 24 s
+    (judged t s w)))
 
 abbrev pub stepOf : Checker → ℕ → Step
 stepOf s w = stepBy (timingOf (s .config)) s w
