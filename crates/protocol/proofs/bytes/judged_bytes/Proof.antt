@@ -2,6 +2,7 @@
 -- Assumes nothing.
 use Prim.Native.Nat.{_-_, _/_, _≤_, _<_}
 use mathlib.Core.Path.{_≡_, refl, sym, _∙_, ap}
+use native.Mathlib.Omega.{arith}
 use borrow.Author.Needs.{needs}
 use lib.ListN.{length, drop, getD}
 use denote.Ref.{now}
@@ -48,7 +49,7 @@ settled-from-requires c κs = search needs
 loop-holds : tie.Need-loop-holds Inv-loop μ-loop
 loop-holds c =
     let a = c .before .before .before .args in
-    (search needs, rw (c .before .never .ensures) (run-is (a .timing) (wordsOf (now (a .bytes)))), c .settled-from .ensures)
+    (omega arith, rw (c .before .never .ensures) (run-is (a .timing) (wordsOf (now (a .bytes)))), c .settled-from .ensures)
 
 cast-loop : tie.Need-cast-loop Inv-loop μ-loop
 cast-loop c = search needs
@@ -75,13 +76,13 @@ next-first-requires : tie.Need-next-first-requires Inv-loop μ-loop
 next-first-requires c κs = search needs
 
 add-past-desl : tie.Need-add-past-desl Inv-loop μ-loop
-add-past-desl c = search needs
+add-past-desl c = omega arith
 
 past-desl-requires : tie.Need-past-desl-requires Inv-loop μ-loop
 past-desl-requires c κs = search needs
 
 loop-less : tie.Need-loop-less Inv-loop μ-loop
-loop-less c = search needs
+loop-less c = omega arith
 
 loop-again : tie.Need-loop-again Inv-loop μ-loop
 loop-again c =
@@ -91,7 +92,7 @@ loop-again c =
     let ws = wordsOf (now (w .before .before .before .before .before .before .args .bytes)) in
     let first = c .before .next-first .result in
     let idle = idle-passes t (l .stamps) (l .clock) (l .first) (w .word-at .result) (early (c .before .before .before)) (c .before .before .if2 .taken) in (
-      search needs,
+      omega arith,
       l .inv .1
           ∙ run-passes t (l .stamps) (l .first) ws (l .clock) (inside w) (word w) (idle .0) refl (idle .1) (c .before .next-first .ensures)
           ∙ c .past-desl .ensures .2 (λ k. run t (l .stamps) k first (drop k ws))
@@ -121,10 +122,10 @@ choose-requires-2 : tie.Need-choose-requires-2 Inv-loop μ-loop
 choose-requires-2 c κs = search needs
 
 add-clock : tie.Need-add-clock Inv-loop μ-loop
-add-clock c = search needs
+add-clock c = omega arith
 
 loop-less-2 : tie.Need-loop-less-2 Inv-loop μ-loop
-loop-less-2 c = search needs
+loop-less-2 c = omega arith
 
 loop-again-2 : tie.Need-loop-again-2 Inv-loop μ-loop
 loop-again-2 c =
@@ -132,7 +133,7 @@ loop-again-2 c =
     let l = w .before .before .loop in
     let a = w .before .before .before .before .before .before .args in
     let clear = clear-passes (a .timing) (l .stamps) (l .clock) (l .first) (w .word-at .result) (early (c .before .before .before .before .before .before)) (c .before .before .before .before .before .if2 .left) (c .before .before .before .clear .ensures (c .before .before .if3 .taken)) in (
-      search needs,
+      omega arith,
       l .inv .1
           ∙ run-passes (a .timing) (l .stamps) (l .first) (wordsOf (now (a .bytes))) (l .clock) (inside w) (word w) (clear .0) refl (rw (c .before .choose .ensures, c .choose2 .ensures) (clear .1)) (clear .2),
       l .inv .2,
@@ -158,17 +159,17 @@ next-first-requires-2 : tie.Need-next-first-requires-2 Inv-loop μ-loop
 next-first-requires-2 c κs = search needs
 
 add-clock-2 : tie.Need-add-clock-2 Inv-loop μ-loop
-add-clock-2 c = search needs
+add-clock-2 c = omega arith
 
 loop-less-3 : tie.Need-loop-less-3 Inv-loop μ-loop
-loop-less-3 c = search needs
+loop-less-3 c = omega arith
 
 loop-again-3 : tie.Need-loop-again-3 Inv-loop μ-loop
 loop-again-3 c =
     let w = c .before .before .before .before .before .before .before .before in
     let l = w .before .before .loop in
     let a = w .before .before .before .before .before .before .args in (
-      search needs,
+      omega arith,
       l .inv .1
           ∙ run-passes (a .timing) (l .stamps) (l .first) (wordsOf (now (a .bytes))) (l .clock) (inside w) (word w) (c .before .before .before .before .word-breach .ensures) (c .before .before .before .if4 .left) (c .before .before .after .ensures) (c .next-first2 .ensures),
       c .before .settled-from2 .ensures,

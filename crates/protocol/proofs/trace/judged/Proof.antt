@@ -1,6 +1,7 @@
 -- The invariant: the verdict on the whole trace is that of a run over what is kept, from the clock on. Assumes nothing.
 use Prim.Native.Nat.{_-_, _≤_}
 use mathlib.Core.Path.{_≡_, refl, sym, _∙_, ap}
+use native.Mathlib.Omega.{arith}
 use borrow.Author.Needs.{needs}
 use lib.ListN.{length, drop}
 use denote.Ref.{now}
@@ -51,17 +52,17 @@ next-first-requires : tie.Need-next-first-requires Inv-loop μ-loop
 next-first-requires c κs = search needs
 
 add-clock : tie.Need-add-clock Inv-loop μ-loop
-add-clock c = search needs
+add-clock c = omega arith
 
 loop-less : tie.Need-loop-less Inv-loop μ-loop
-loop-less c = search needs
+loop-less c = omega arith
 
 loop-again : tie.Need-loop-again Inv-loop μ-loop
 loop-again c =
     let w = c .before .before .before in
     let l = w .before .before .before .loop in
     let a = w .before .before .before .before .before .before .args in (
-      search needs,
+      omega arith,
       l .inv .1
           ∙ run-passes (a .timing) (l .stamps) (l .first) (now (a .words)) (l .clock) (w .before .before .loop-test .taken) refl (w .word-breach .ensures) (c .before .before .if1 .left) (c .before .after .ensures) (c .next-first .ensures),
     )
