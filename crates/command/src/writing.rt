@@ -21,7 +21,10 @@ use config::Refusal;
 use config::Timing;
 use config::TimingAnswer;
 ghost use mathlib.Core.Path.{_≡_};
-ghost use Prim.Native.Nat.{_≤_};
+ghost use mathlib.Core.Bool.{cond, not, _&&_};
+ghost use Prim.Native.Nat.{_+_, _*_, _≤_};
+ghost use lib.Dec.{eqb};
+ghost use Rattle.command.specs.Pins.{level};
 ghost use Rattle.command.specs.Writing.{requestFits, operationFits, accessPair, pairOf, writePair};
 ghost use Rattle.command.specs.Answers.{writeOutcome};
 
@@ -61,18 +64,27 @@ pub fn operation_fits(timing: Timing, operation: Operation) -> bool
     }
 }
 
+// The VW pins, of these weights, of a lane that writes so many words; low where the lane is not driven.
+fn lane(driven: bool, long: bool, words: u32, vw0: u32, vw1: u32) -> u32
+    requires { ⌜ vw0 + vw1 ≤ 73728 ⌝ }
+    ensures { λ r. ⌜ (r ≡ cond driven (level (not (eqb words 2)) * vw0 + level (long && not (eqb words 4)) * vw1) 0) × (r ≤ vw0 + vw1) ⌝ }
+{
+    kept(
+        driven,
+        kept(!(words == 2), vw0) + kept(long & !(words == 4), vw1),
+    )
+}
+
 fn access(timing: Timing, request: Request) -> Pair
     ensures { λ r. ⌜ r ≡ accessPair timing request ⌝ }
 {
     let long = timing.bl == 4;
     let wide = timing.organisation == 16;
-    let lower = bit(!(request.lower == 2)) * BA2 + bit(long & !(request.lower == 4)) * A13;
-    let upper = bit(!(request.upper == 2)) * A12 + bit(long & !(request.upper == 4)) * A11;
-    let lower_lane = kept(request.write, lower);
-    let upper_lane = kept(request.write & wide, upper);
+    let lower = lane(request.write, long, request.lower, BA2, A13);
+    let upper = lane(request.write & wide, long, request.upper, A12, A11);
     Pair {
         first: PD + bit(!request.write) * FN + request.bank % 8 * BA0 + request.row % 16384 * A0,
-        second: PD + CS + request.column % 512 * A0 + lower_lane + upper_lane,
+        second: PD + CS + request.column % 512 * A0 + lower + upper,
     }
 }
 

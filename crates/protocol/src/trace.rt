@@ -2,7 +2,6 @@
 use crate::checker::Breach;
 use crate::checker::LIMIT;
 use crate::checker::Verdict;
-use command::pins::CS;
 use config::Config;
 use config::Refusal;
 use config::Timing;
@@ -31,10 +30,7 @@ fn judged(timing: Timing, words: &[u32]) -> Verdict
         if number != 0 {
             return Verdict::InBreach(Breach { clock, number });
         }
-        let opened = !(first / CS % 2 == 1);
-        if opened {
-            stamps = stamps.remembered(clock, first, word);
-        }
+        stamps = stamps.after(clock, first, word);
         first = next_first(first, word);
         clock += 1;
     }

@@ -1,5 +1,5 @@
 -- The tests of timestamps are the published rules. Read Words last: it has a word, and a whole trace.
-pub mod Lowest
+pub mod ByKind
 pub mod Closings
 pub mod Newest
 pub mod Summary

@@ -111,22 +111,20 @@ run-is t ws = run-from t none 0 [] ws tt
 
 -- a run at a place of a list: a word that passes leads on, one that does not ends it, and the list's end accepts
 module _ (t : Timing) (s : Timestamps) (first : ℕ) (ws : List ℕ) (k : ℕ) where
-  at : k < length ws
-      → run t s k first (drop k ws)
-      ≡ lead (wordBreach t s k first (getD ws k 0)) k (run t (nextStamps s k first (getD ws k 0)) (k + 1) (nextFirst first (getD ws k 0)) (drop (k + 1) ws))
-  at h = ap (run t s k first) (drop-cons ws k 0 h ∙ ap (λ j. getD ws k 0 ∷ drop j ws) (sym (add-one k)))
+  module _ {w n : ℕ} (inside : k < length ws) (word : w ≡ getD ws k 0) (number : n ≡ wordBreach t s k first w) where
+    at : run t s k first (drop k ws) ≡ lead n k (run t (nextStamps s k first w) (k + 1) (nextFirst first w) (drop (k + 1) ws))
+    at = ap (run t s k first) (drop-cons ws k 0 inside ∙ ap (λ j. getD ws k 0 ∷ drop j ws) (sym (add-one k))) ∙ rw (number, word)
 
-  pub run-passes : k < length ws → wordBreach t s k first (getD ws k 0) ≡ 0
-      → run t s k first (drop k ws) ≡ run t (nextStamps s k first (getD ws k 0)) (k + 1) (nextFirst first (getD ws k 0)) (drop (k + 1) ws)
-  run-passes h e = at h ∙ rw e
+    pub run-passes : {s₁ : Timestamps} {first₁ : ℕ} → n ≡ 0 → s₁ ≡ nextStamps s k first w → first₁ ≡ nextFirst first w
+        → run t s k first (drop k ws) ≡ run t s₁ (k + 1) first₁ (drop (k + 1) ws)
+    run-passes e stamps opened = at ∙ rw (e, stamps, opened)
 
-  pub run-breaches : k < length ws → (wordBreach t s k first (getD ws k 0) ≡ 0 → ⊥)
-      → run t s k first (drop k ws) ≡ breach k (wordBreach t s k first (getD ws k 0))
-  run-breaches h e = at h ∙ stop (wordBreach t s k first (getD ws k 0)) _ e
-    where
-      stop : (n : ℕ) (rest : Judgement) → (n ≡ 0 → ⊥) → lead n k rest ≡ breach k n
-      stop zero rest e = absurd (e refl)
-      stop (suc n) rest e = refl
+    pub run-breaches : (n ≡ 0 → ⊥) → run t s k first (drop k ws) ≡ breach k n
+    run-breaches e = at ∙ stop n _ e
+      where
+        stop : (n : ℕ) (rest : Judgement) → (n ≡ 0 → ⊥) → lead n k rest ≡ breach k n
+        stop zero rest e = absurd (e refl)
+        stop (suc n) rest e = refl
 
   pub run-ends : length ws ≤ k → run t s k first (drop k ws) ≡ accepted
   run-ends h = rw (drop-of-length-le ws h)

@@ -5,6 +5,7 @@ use command::pins::CS;
 use command::pins::FN;
 use command::pins::PD;
 use config::Timing;
+use config::choose;
 ghost use mathlib.Core.Path.{_≡_};
 ghost use mathlib.Core.Bool.{true, false};
 ghost use Rattle.command.specs.Reading.{lal};
@@ -55,50 +56,6 @@ pub fn early_breach(refi: u32, last: u32, clock: u32, word: u32) -> u32
     lowest_early(0x100000 <= word, !(word / PD % 2 == 1), overdue)
 }
 
-// The number of the first of rules 4 to 12 whose test holds, or 0.
-fn lowest_closing(
-    r4: bool,
-    r5: bool,
-    r6: bool,
-    r7: bool,
-    r8: bool,
-    r9: bool,
-    r10: bool,
-    r11: bool,
-    r12: bool,
-) -> u32
-    ensures { λ r. ⌜ r ≡ lowest 4 (r4 ∷ r5 ∷ r6 ∷ r7 ∷ r8 ∷ r9 ∷ r10 ∷ r11 ∷ r12 ∷ []) ⌝ }
-{
-    if !(r4 | (r5 | (r6 | (r7 | (r8 | (r9 | (r10 | (r11 | r12)))))))) {
-        return 0;
-    }
-    if r4 {
-        return 4;
-    }
-    if r5 {
-        return 5;
-    }
-    if r6 {
-        return 6;
-    }
-    if r7 {
-        return 7;
-    }
-    if r8 {
-        return 8;
-    }
-    if r9 {
-        return 9;
-    }
-    if r10 {
-        return 10;
-    }
-    if r11 {
-        return 11;
-    }
-    if r12 { 12 } else { 0 }
-}
-
 // Rule 6, for a read or write.
 fn unready(extended: u32, regular: u32, second_last: u32, clock: u32) -> bool
     ensures { λ r. ⌜ r ≡ notReady extended regular «second_last» clock ⌝ }
@@ -144,17 +101,10 @@ fn access_breach(timing: Timing, stamps: Timestamps, clock: u32, first: u32, sec
     let too_close = too_close(rda, timing, stamps.read, stamps.write, clock);
     let after_mode = near(clock, stamps.mode, timing.rsc);
     let after_refresh = near(clock, refs[0], timing.refc);
-    lowest_closing(
-        false,
-        reserved,
-        unready,
-        same_bank,
-        too_close,
-        after_mode,
-        after_refresh,
-        false,
-        false,
-    )
+    // The lowest number from 9 on, and from 7 on.
+    let from_9 = choose(after_mode, 9, choose(after_refresh, 10, 0));
+    let from_7 = choose(same_bank, 7, choose(too_close, 8, from_9));
+    choose(reserved, 5, choose(unready, 6, from_7))
 }
 
 // Rules 4 to 12 at an MRS or REF word.
@@ -175,17 +125,9 @@ fn mode_or_refresh_breach(
     let after_refresh = near(clock, refs[0], timing.refc);
     let busy = busy(rda, timing, stamps.read, stamps.write, clock);
     let in_window = near(clock, refs[7], timing.window);
-    lowest_closing(
-        wrong,
-        false,
-        false,
-        false,
-        false,
-        after_mode,
-        after_refresh,
-        busy,
-        !rda & in_window,
-    )
+    let from_11 = choose(busy, 11, choose(!rda & in_window, 12, 0));
+    let from_9 = choose(after_mode, 9, choose(after_refresh, 10, from_11));
+    choose(wrong, 4, from_9)
 }
 
 // Rules 4 to 12 at the closing word of a pair.

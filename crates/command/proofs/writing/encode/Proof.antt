@@ -1,4 +1,5 @@
 -- One case for each variant. Assumes nothing.
+use native.Mathlib.Omega.{arith}
 use borrow.Author.Needs.{needs}
 use Rattle.command.proofs.writing.encode.Statement.{statement}
 use Rattle.command.proofs.writing.encode.Tie as tie
@@ -13,43 +14,43 @@ enum-known-operation-2 : tie.Need-enum-known-operation-2
 enum-known-operation-2 c = search needs
 
 add-t7 : tie.Need-add-t7
-add-t7 c = search needs
+add-t7 c = omega arith
 
 mul-t9 : tie.Need-mul-t9
-mul-t9 c = search needs
+mul-t9 c = omega arith
 
 add-t10 : tie.Need-add-t10
-add-t10 c = search needs
+add-t10 c = omega arith
 
 bit-requires : tie.Need-bit-requires
 bit-requires c κs = search needs
 
 mul-t12 : tie.Need-mul-t12
-mul-t12 c = search needs
+mul-t12 c = omega arith
 
 add-t13 : tie.Need-add-t13
-add-t13 c = search needs
+add-t13 c = omega arith
 
 mul-t16 : tie.Need-mul-t16
-mul-t16 c = search needs
+mul-t16 c = omega arith
 
 add-t17 : tie.Need-add-t17
-add-t17 c = search needs
+add-t17 c = omega arith
 
 enum-known-operation-3 : tie.Need-enum-known-operation-3
 enum-known-operation-3 c = search needs
 
 add-t18 : tie.Need-add-t18
-add-t18 c = search needs
+add-t18 c = omega arith
 
 add-t19 : tie.Need-add-t19
-add-t19 c = search needs
+add-t19 c = omega arith
 
 mul-t21 : tie.Need-mul-t21
-mul-t21 c = search needs
+mul-t21 c = omega arith
 
 add-t22 : tie.Need-add-t22
-add-t22 c = search needs
+add-t22 c = omega arith
 
 enum-told : tie.Need-enum-told
 enum-told c = search needs

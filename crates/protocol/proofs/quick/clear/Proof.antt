@@ -1,12 +1,13 @@
--- The tests that only an MRS or REF can meet are false at a LAL word; each of the others is passed. Assumes nothing.
+-- Each rule that a LAL word can breach is kept by one of the tests. Assumes nothing.
 use Prim.Native.Nat.{ℕ, _+_, _≤_, _<_}
-use mathlib.Core.Path.{_≡_}
-use mathlib.Core.Bool.{Bool, true, false, cond, not, and-false, false≢true}
+use mathlib.Core.Path.{_≡_, sym, _∙_}
+use mathlib.Core.Bool.{Bool, true, false, cond, false≢true}
 use native.Mathlib.Omega.{arith}
 use borrow.Author.Tests.{not-true, not-false}
 use Rattle.config.specs.declared.Timing.{Timing}
 use Rattle.command.specs.Reading.{rda, lal}
-use Rattle.rules.specs.Stamps.{tooClose}
+use Rattle.rules.specs.Stamps.{bankStamp, tooClose}
+use Rattle.rules.proofs.ByKind.{at-lal}
 use Rattle.protocol.proofs.Far.{far}
 use borrow.Author.Needs.{needs}
 use Rattle.protocol.proofs.quick.clear.Statement.{statement}
@@ -62,11 +63,11 @@ returns-7 c e =
     let p = c .before .before .before .before .before .before .before .before .before .before .before .before .before .pre in
     let l = not-false (lal (a .word)) (c .before .before .before .before .before .before .before .before .before .before .if1 .left) in
     let settled = p .1 (a .clock) (p .2) (omega arith) in
-    let bank = far (a .clock) (a .bank) (a .timing .rc) (omega arith) in
+    let bank = far (a .clock) (bankStamp (a .stamps) (a .first)) (a .timing .rc) (rw (← p .0) (omega arith)) in
     let close =
     spaced (rda (a .first)) (a .timing) (a .stamps .read) (a .stamps .write) (a .clock) (omega arith) (omega arith)
     (rw (← c .before .before .before .before .before .before .before .before .before .before .before .before .choose .ensures, ← c .before .before .before .before .before .before .before .before .before .before .before .choose2 .ensures) (omega arith)) in
-    (l, rw (← c .lane-reserved .ensures, not-true (c .lane-reserved .result) e, l, settled .0, ← p .0, bank, close, settled .1, settled .2, and-false (rda (a .first)), and-false (not (rda (a .first)))))
+    (l, sym (at-lal (a .timing) (a .stamps) (a .clock) (a .first) (a .word) l (sym (not-true (c .lane-reserved .result) e) ∙ c .lane-reserved .ensures) (sym (settled .0)) (sym bank) (sym close) (sym (settled .1)) (sym (settled .2))))
 
 pub clear-spec : {M : Type 1} → statement M
 clear-spec =

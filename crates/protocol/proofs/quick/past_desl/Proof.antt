@@ -1,6 +1,7 @@
 -- What a DESL word does not change is the same after each. Assumes nothing.
 use Prim.Native.Nat.{_-_, _/_, _^_, _≤_}
 use mathlib.Core.Path.{refl, _∙_}
+use native.Mathlib.Omega.{arith}
 use borrow.Author.Needs.{needs}
 use borrow.Author.Tests.{not-false, eqb-true, leb-true}
 use lib.Dec.{eqb, leb}
@@ -41,10 +42,10 @@ returns-2 : tie.Need-returns-2 Inv-loop μ-loop
 returns-2 c = c .before .before .before .loop .inv
 
 add-at : tie.Need-add-at Inv-loop μ-loop
-add-at c = search needs
+add-at c = omega arith
 
 loop-less : tie.Need-loop-less Inv-loop μ-loop
-loop-less c = search needs
+loop-less c = omega arith
 
 loop-again : tie.Need-loop-again Inv-loop μ-loop
 loop-again c =
@@ -53,8 +54,8 @@ loop-again c =
     let w = c .before .word-at in
     let inside = c .before .before .loop-test .taken in
     let h = both (eqb (w .result / 2 ^ 18) 3) (leb (l .at) (a .until)) (not-false _ (c .if2 .left)) in (
-      search needs,
-      search needs,
+      omega arith,
+      omega arith,
       λ f step. l .inv .2 f step
           ∙ step (l .at) (rw (words-length (now (a .bytes))) inside) (leb-true (l .at) (a .until) (h .1))
           (rw (← w .ensures ∙ word-listed (now (a .bytes)) (l .at) inside) (eqb-true (w .result / 2 ^ 18) 3 (h .0)))

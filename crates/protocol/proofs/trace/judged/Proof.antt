@@ -1,13 +1,12 @@
 -- The invariant: the verdict on the whole trace is that of a run over what is kept, from the clock on. Assumes nothing.
 use Prim.Native.Nat.{_-_, _≤_}
-use mathlib.Core.Path.{_≡_, _∙_, sym}
+use mathlib.Core.Path.{_≡_, refl, sym, _∙_, ap}
 use native.Mathlib.Omega.{arith}
-use mathlib.Core.Logic.{⊎-elim}
 use borrow.Author.Needs.{needs}
-use lib.ListN.{length, drop, getD}
+use lib.ListN.{length, drop}
 use denote.Ref.{now}
 use Rattle.rules.specs.Verdict.{judge}
-use Rattle.rules.specs.Stamps.{nextStamps}
+use Rattle.config.specs.Outcome.{value}
 use Rattle.rules.proofs.Words.{run, run-is, run-passes, run-breaches, run-ends}
 use Rattle.protocol.proofs.trace.judged.Statement.{statement}
 use Rattle.protocol.proofs.trace.judged.Tie as tie
@@ -18,10 +17,6 @@ Inv-loop timing words stamps₀ first₀ clock₀ stamps first clock =
 
 abbrev μ-loop : tie.MeasureT-loop
 μ-loop timing words stamps₀ first₀ clock₀ stamps first clock = length words - clock
-
--- what is kept after the word, by whether a pair was open
-kept : (c : tie.Joined2 Inv-loop μ-loop) → c .if2 .stamps ≡ nextStamps (c .before .before .before .before .before .loop .stamps) (c .before .before .before .before .before .loop .clock) (c .before .before .before .before .before .loop .first) (getD (now (c .before .before .before .before .before .before .before .before .args .words)) (c .before .before .before .before .before .loop .clock) 0)
-kept c = ⊎-elim (λ w. rw (w .0 .taken) (w .2 ∙ w .1 .ensures)) (λ w. rw (w .0 .left) (w .1)) (c .if2 .came)
 
 never-requires : tie.Need-never-requires Inv-loop μ-loop
 never-requires c κs = search needs
@@ -48,36 +43,35 @@ returns : tie.Need-returns Inv-loop μ-loop
 returns c =
     let l = c .before .before .before .before .loop in
     let a = c .before .before .before .before .before .before .before .args in
-    rw
-    (l .inv .1, run-breaches (a .timing) (l .stamps) (l .first) (now (a .words)) (l .clock) (c .before .before .before .loop-test .taken) (λ e. c .if1 .taken (c .before .word-breach .ensures ∙ e)), ← c .before .word-breach .ensures)
+    ap value (sym (l .inv .1 ∙ run-breaches (a .timing) (l .stamps) (l .first) (now (a .words)) (l .clock) (c .before .before .before .loop-test .taken) refl (c .before .word-breach .ensures) (c .if1 .taken)))
 
-remembered-requires : tie.Need-remembered-requires Inv-loop μ-loop
-remembered-requires c κs = search needs
+after-requires : tie.Need-after-requires Inv-loop μ-loop
+after-requires c κs = search needs
 
 next-first-requires : tie.Need-next-first-requires Inv-loop μ-loop
 next-first-requires c κs = search needs
 
 add-clock : tie.Need-add-clock Inv-loop μ-loop
-add-clock c = search needs
+add-clock c = omega arith
 
 loop-less : tie.Need-loop-less Inv-loop μ-loop
-loop-less c = search needs
+loop-less c = omega arith
 
 loop-again : tie.Need-loop-again Inv-loop μ-loop
 loop-again c =
-    let l = c .before .before .before .before .before .before .loop in
-    let a = c .before .before .before .before .before .before .before .before .before .args in (
-      search needs,
-      rw (kept (c .before), c .next-first .ensures, l .inv .1)
-          (run-passes (a .timing) (l .stamps) (l .first) (now (a .words)) (l .clock) (c .before .before .before .before .before .loop-test .taken)
-          (sym (c .before .before .before .word-breach .ensures) ∙ c .before .before .if1 .left)),
+    let w = c .before .before .before in
+    let l = w .before .before .before .loop in
+    let a = w .before .before .before .before .before .before .args in (
+      omega arith,
+      l .inv .1
+          ∙ run-passes (a .timing) (l .stamps) (l .first) (now (a .words)) (l .clock) (w .before .before .loop-test .taken) refl (w .word-breach .ensures) (c .before .before .if1 .left) (c .before .after .ensures) (c .next-first .ensures),
     )
 
 returns-2 : tie.Need-returns-2 Inv-loop μ-loop
 returns-2 c =
     let l = c .before .loop in
     let a = c .before .before .before .before .args in
-    rw (l .inv .1, run-ends (a .timing) (l .stamps) (l .first) (now (a .words)) (l .clock) (c .loop-test .left))
+    ap value (sym (l .inv .1 ∙ run-ends (a .timing) (l .stamps) (l .first) (now (a .words)) (l .clock) (c .loop-test .left)))
 
 pub judged-spec : {M : Type 1} → statement M
 judged-spec =
@@ -93,7 +87,7 @@ judged-spec =
     shared-slice-read-word
     word-breach-requires
     returns
-    remembered-requires
+    after-requires
     next-first-requires
     add-clock
     loop-less

@@ -1,7 +1,6 @@
 -- The tests that only an MRS or REF can meet are false at a LAL word. Assumes nothing.
-use mathlib.Core.Bool.{not, and-false}
-use Rattle.command.specs.Reading.{rda}
 use borrow.Author.Needs.{needs}
+use Rattle.rules.proofs.ByKind.{at-lal}
 use Rattle.rules.proofs.rules.access_breach.Statement.{statement}
 use Rattle.rules.proofs.rules.access_breach.Tie as tie
 
@@ -38,11 +37,30 @@ array-read-near-2 c = search needs
 near-requires-3 : tie.Need-near-requires-3
 near-requires-3 c κs = search needs
 
-lowest-closing-requires : tie.Need-lowest-closing-requires
-lowest-closing-requires c κs = search needs
+choose-requires : tie.Need-choose-requires
+choose-requires c κs = search needs
+
+choose-requires-2 : tie.Need-choose-requires-2
+choose-requires-2 c κs = search needs
+
+choose-requires-3 : tie.Need-choose-requires-3
+choose-requires-3 c κs = search needs
+
+choose-requires-4 : tie.Need-choose-requires-4
+choose-requires-4 c κs = search needs
+
+choose-requires-5 : tie.Need-choose-requires-5
+choose-requires-5 c κs = search needs
+
+choose-requires-6 : tie.Need-choose-requires-6
+choose-requires-6 c κs = search needs
 
 returns : tie.Need-returns
-returns c = rw (c .lowest-closing .ensures, c .before .before .before .before .before .before .lane-reserved .ensures, c .before .before .before .before .before .unready .ensures, c .before .before .before .before .near .ensures, c .before .before .before .too-close .ensures, c .before .before .near2 .ensures, c .before .near3 .ensures, c .before .before .before .before .before .before .before .before .before .pre, and-false (rda (c .before .before .before .before .before .before .before .before .before .args .first)), and-false (not (rda (c .before .before .before .before .before .before .before .before .before .args .first))))
+returns c =
+    let n = c .before .before .before .before .before .before in
+    let a = n .before .before .before .before .before .before .before .before .args in
+    rw (c .choose6 .ensures, c .before .choose5 .ensures, c .before .before .choose4 .ensures, c .before .before .before .choose3 .ensures, c .before .before .before .before .choose2 .ensures, c .before .before .before .before .before .choose .ensures)
+    (at-lal (a .timing) (a .stamps) (a .clock) (a .first) (a .second) (n .before .before .before .before .before .before .before .before .pre) (n .before .before .before .before .before .lane-reserved .ensures) (n .before .before .before .before .unready .ensures) (n .before .before .before .near .ensures) (n .before .before .too-close .ensures) (n .before .near2 .ensures) (n .near3 .ensures))
 
 pub access-breach-spec : {M : Type 1} → statement M
 access-breach-spec =
@@ -59,5 +77,10 @@ access-breach-spec =
     near-requires-2
     array-read-near-2
     near-requires-3
-    lowest-closing-requires
+    choose-requires
+    choose-requires-2
+    choose-requires-3
+    choose-requires-4
+    choose-requires-5
+    choose-requires-6
     returns)

@@ -1,7 +1,6 @@
 -- The tests that only a LAL word can meet are false at any other. Assumes nothing.
-use mathlib.Core.Bool.{not, and-false, and-true}
-use Rattle.command.specs.Reading.{rda}
 use borrow.Author.Needs.{needs}
+use Rattle.rules.proofs.ByKind.{at-other}
 use Rattle.rules.proofs.rules.mode_or_refresh_breach.Statement.{statement}
 use Rattle.rules.proofs.rules.mode_or_refresh_breach.Tie as tie
 
@@ -26,11 +25,27 @@ array-read-near-2 c = search needs
 near-requires-3 : tie.Need-near-requires-3
 near-requires-3 c κs = search needs
 
-lowest-closing-requires : tie.Need-lowest-closing-requires
-lowest-closing-requires c κs = search needs
+choose-requires : tie.Need-choose-requires
+choose-requires c κs = search needs
+
+choose-requires-2 : tie.Need-choose-requires-2
+choose-requires-2 c κs = search needs
+
+choose-requires-3 : tie.Need-choose-requires-3
+choose-requires-3 c κs = search needs
+
+choose-requires-4 : tie.Need-choose-requires-4
+choose-requires-4 c κs = search needs
+
+choose-requires-5 : tie.Need-choose-requires-5
+choose-requires-5 c κs = search needs
 
 returns : tie.Need-returns
-returns c = rw (c .lowest-closing .ensures, c .before .before .before .before .before .mode-wrong .ensures, c .before .before .before .before .near .ensures, c .before .before .before .near2 .ensures, c .before .before .busy .ensures, c .before .near3 .ensures, c .before .before .before .before .before .before .before .pre, and-false (rda (c .before .before .before .before .before .before .before .args .first)), and-false (not (rda (c .before .before .before .before .before .before .before .args .first))), and-true (not (rda (c .before .before .before .before .before .before .before .args .first))))
+returns c =
+    let n = c .before .before .before .before .before in
+    let a = n .before .before .before .before .before .before .args in
+    rw (c .choose5 .ensures, c .before .choose4 .ensures, c .before .before .choose3 .ensures, c .before .before .before .choose2 .ensures, c .before .before .before .before .choose .ensures)
+    (at-other (a .timing) (a .stamps) (a .clock) (a .first) (a .second) (n .before .before .before .before .before .before .pre) (n .before .before .before .before .mode-wrong .ensures) (n .before .before .before .near .ensures) (n .before .before .near2 .ensures) (n .before .busy .ensures) (n .near3 .ensures))
 
 pub mode-or-refresh-breach-spec : {M : Type 1} → statement M
 mode-or-refresh-breach-spec =
@@ -43,5 +58,9 @@ mode-or-refresh-breach-spec =
     busy-requires
     array-read-near-2
     near-requires-3
-    lowest-closing-requires
+    choose-requires
+    choose-requires-2
+    choose-requires-3
+    choose-requires-4
+    choose-requires-5
     returns)
