@@ -51,5 +51,5 @@ pub extern "C" fn fcram_check(
         rsc: Clocks(rsc),
         refc: Clocks(refc),
     };
-    number(protocol::check_bytes(config, trace))
+    number(bytecheck::check_bytes(config, trace))
 }

@@ -42,7 +42,7 @@ pub(crate) fn line_of(bytes: &[u8]) -> Line
     if 65536 < bytes.len() {
         return refused(Refusal::InputSize.number());
     }
-    match protocol::check_bytes(Config::institute(), bytes) {
+    match bytecheck::check_bytes(Config::institute(), bytes) {
         Verdict::Accepted => accepted((bytes.len() / 4) as u32),
         Verdict::InBreach(breach) => in_breach(breach.clock, breach.number),
         Verdict::Refused(why) => refused(why.number()),

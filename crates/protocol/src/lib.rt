@@ -1,10 +1,7 @@
 // The checker: a bounded state that takes one word after the other, and the whole check of a trace.
-mod bytes;
 mod checker;
-mod quick;
 mod trace;
 
-pub use bytes::check_bytes;
 pub use checker::Breach;
 pub use checker::Checker;
 pub use checker::LIMIT;

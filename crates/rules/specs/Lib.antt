@@ -1,6 +1,7 @@
 -- The published rules (History, Rules, Verdict); and apart from them the same as tests of timestamps (Stamps), which is what the
--- code's contracts say.
+-- contracts of single words say, with the theorem that these are the rules (Kept).
 pub mod History
 pub mod Rules
 pub mod Verdict
 pub mod Stamps
+pub mod Kept

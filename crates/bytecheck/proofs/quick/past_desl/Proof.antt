@@ -10,9 +10,9 @@ use denote.Ref.{now}
 use Rattle.config.proofs.Bounds.{both}
 use Rattle.words.specs.Words.{wordsOf}
 use Rattle.words.proofs.Listed.{words-length, word-listed}
-use Rattle.protocol.specs.Quick.{OnlyDesl}
-use Rattle.protocol.proofs.quick.past_desl.Statement.{statement}
-use Rattle.protocol.proofs.quick.past_desl.Tie as tie
+use Rattle.bytecheck.specs.Quick.{OnlyDesl}
+use Rattle.bytecheck.proofs.quick.past_desl.Statement.{statement}
+use Rattle.bytecheck.proofs.quick.past_desl.Tie as tie
 
 abbrev Inv-loop : tie.InvT-loop
 Inv-loop bytes first clock until at₀ at = (clock ≤ at) × (at ≤ length bytes / 4) × OnlyDesl first until (wordsOf bytes) clock at

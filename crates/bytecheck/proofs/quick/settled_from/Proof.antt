@@ -3,10 +3,10 @@ use Prim.Native.Nat.{_+_}
 use native.Mathlib.Omega.{arith}
 use lib.ListN.{getD}
 use borrow.Author.Tests.{le-ltb}
-use Rattle.protocol.proofs.Far.{far}
+use Rattle.bytecheck.proofs.Far.{far}
 use borrow.Author.Needs.{needs}
-use Rattle.protocol.proofs.quick.settled_from.Statement.{statement}
-use Rattle.protocol.proofs.quick.settled_from.Tie as tie
+use Rattle.bytecheck.proofs.quick.settled_from.Statement.{statement}
+use Rattle.bytecheck.proofs.quick.settled_from.Tie as tie
 
 array-read-if1 : tie.Need-array-read-if1
 array-read-if1 c = search needs

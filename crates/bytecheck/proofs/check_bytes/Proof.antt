@@ -1,8 +1,8 @@
 -- The configuration's refusal, 29, 24, or the verdict. Assumes nothing.
 use borrow.Author.Tests.{le-leb, lt-leb, eq-eqb, ne-eqb}
 use borrow.Author.Needs.{needs}
-use Rattle.protocol.proofs.bytes.check_bytes.Statement.{statement}
-use Rattle.protocol.proofs.bytes.check_bytes.Tie as tie
+use Rattle.bytecheck.proofs.check_bytes.Statement.{statement}
+use Rattle.bytecheck.proofs.check_bytes.Tie as tie
 
 timing-requires : tie.Need-timing-requires
 timing-requires c κs = search needs

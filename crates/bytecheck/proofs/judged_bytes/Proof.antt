@@ -11,11 +11,11 @@ use Rattle.words.specs.Words.{wordsOf}
 use Rattle.words.proofs.Listed.{words-length, word-listed}
 use Rattle.rules.specs.Verdict.{judge}
 use Rattle.rules.specs.Stamps.{earlyBreach}
-use Rattle.protocol.specs.Quick.{SettledFrom}
-use Rattle.protocol.proofs.Far.{early-by, idle-passes, clear-passes, desl-passes}
+use Rattle.bytecheck.specs.Quick.{SettledFrom}
+use Rattle.bytecheck.proofs.Far.{early-by, idle-passes, clear-passes, desl-passes}
 use Rattle.rules.proofs.Words.{run, run-is, run-passes, run-breaches, run-ends}
-use Rattle.protocol.proofs.bytes.judged_bytes.Statement.{statement}
-use Rattle.protocol.proofs.bytes.judged_bytes.Tie as tie
+use Rattle.bytecheck.proofs.judged_bytes.Statement.{statement}
+use Rattle.bytecheck.proofs.judged_bytes.Tie as tie
 
 abbrev Inv-loop : tie.InvT-loop
 Inv-loop timing bytes stamps₀ from₀ first₀ clock₀ stamps from first clock =

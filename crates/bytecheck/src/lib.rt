@@ -1,11 +1,6 @@
 // The whole check of a trace that is handed over as bytes.
-use crate::checker::Breach;
-use crate::checker::LIMIT;
-use crate::checker::Verdict;
-use crate::quick::clear;
-use crate::quick::due;
-use crate::quick::past_desl;
-use crate::quick::settled_from;
+mod quick;
+
 use command::pins::BA0;
 use command::pins::CS;
 use command::pins::FN;
@@ -15,6 +10,13 @@ use config::Refusal;
 use config::Timing;
 use config::TimingAnswer;
 use config::choose;
+use protocol::Breach;
+use protocol::LIMIT;
+use protocol::Verdict;
+use quick::clear;
+use quick::due;
+use quick::past_desl;
+use quick::settled_from;
 use rules::DESL;
 use rules::Timestamps;
 use rules::next_first;

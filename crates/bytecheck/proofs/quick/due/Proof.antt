@@ -5,8 +5,8 @@ use native.Mathlib.Omega.{arith}
 use borrow.Author.Tests.{le-ltb}
 use lib.Dec.{eqb}
 use borrow.Author.Needs.{needs}
-use Rattle.protocol.proofs.quick.due.Statement.{statement}
-use Rattle.protocol.proofs.quick.due.Tie as tie
+use Rattle.bytecheck.proofs.quick.due.Statement.{statement}
+use Rattle.bytecheck.proofs.quick.due.Tie as tie
 
 returns : tie.Need-returns
 returns c k h = rw (c .if1 .taken)

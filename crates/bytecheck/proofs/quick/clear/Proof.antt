@@ -8,10 +8,10 @@ use Rattle.config.specs.declared.Timing.{Timing}
 use Rattle.command.specs.Reading.{rda, lal}
 use Rattle.rules.specs.Stamps.{bankStamp, tooClose}
 use Rattle.rules.proofs.ByKind.{at-lal}
-use Rattle.protocol.proofs.Far.{far}
+use Rattle.bytecheck.proofs.Far.{far}
 use borrow.Author.Needs.{needs}
-use Rattle.protocol.proofs.quick.clear.Statement.{statement}
-use Rattle.protocol.proofs.quick.clear.Tie as tie
+use Rattle.bytecheck.proofs.quick.clear.Statement.{statement}
+use Rattle.bytecheck.proofs.quick.clear.Tie as tie
 
 spaced : (rda : Bool) (t : Timing) (read write k : ℕ) → read + t .rbd ≤ k → write + t .rbd ≤ k
     → cond rda write read + cond rda (t .wrd) (t .rwd) < k → tooClose rda true t read write k ≡ false

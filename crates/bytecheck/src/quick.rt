@@ -12,7 +12,7 @@ ghost use lib.ListN.{length};
 ghost use Rattle.command.specs.Reading.{lal};
 ghost use Rattle.words.specs.Words.{wordsOf};
 ghost use Rattle.rules.specs.Stamps.{overdue, bankStamp, closingBreach};
-ghost use Rattle.protocol.specs.Quick.{SettledFrom, OnlyDesl};
+ghost use Rattle.bytecheck.specs.Quick.{SettledFrom, OnlyDesl};
 
 // Past every clock of a trace.
 const NEVER: u64 = 16777217;
