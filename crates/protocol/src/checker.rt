@@ -47,22 +47,14 @@ pub const LIMIT: u32 = 16777216;
 fn eight_before(clock: u32, stamps: [u32; 8]) -> bool
     ensures { λ r. ⌜ r ≡ eightBefore clock stamps ⌝ }
 {
-    let a = stamps[0];
-    let b = stamps[1];
-    let c = stamps[2];
-    let d = stamps[3];
-    let e = stamps[4];
-    let f = stamps[5];
-    let g = stamps[6];
-    let h = stamps[7];
-    ((a == 0) | (a < clock))
-        & ((b == 0) | (b < clock))
-        & ((c == 0) | (c < clock))
-        & ((d == 0) | (d < clock))
-        & ((e == 0) | (e < clock))
-        & ((f == 0) | (f < clock))
-        & ((g == 0) | (g < clock))
-        & ((h == 0) | (h < clock))
+    ((stamps[0] == 0) | (stamps[0] < clock))
+        & ((stamps[1] == 0) | (stamps[1] < clock))
+        & ((stamps[2] == 0) | (stamps[2] < clock))
+        & ((stamps[3] == 0) | (stamps[3] < clock))
+        & ((stamps[4] == 0) | (stamps[4] < clock))
+        & ((stamps[5] == 0) | (stamps[5] < clock))
+        & ((stamps[6] == 0) | (stamps[6] < clock))
+        & ((stamps[7] == 0) | (stamps[7] < clock))
 }
 
 // Every event that is remembered is before the clock.
