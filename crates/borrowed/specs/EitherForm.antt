@@ -58,6 +58,7 @@ abbrev pub collectFrom : Run → List Made → Run
 collectFrom r [] = r
 collectFrom r (m ∷ ms) = collectFrom (collected (m .call) (m .answer) (m .word) (m .after) r) ms
 
+-- the calls from a fresh controller
 abbrev pub collect : Config → List Made → Run
 collect c ms = collectFrom (record { words = []; accepted = []; controller = fresh c }) ms
 

@@ -7,6 +7,7 @@ use Rattle.config.specs.declared.Timing.{Timing}
 use Rattle.config.specs.declared.TimingAnswer.{TimingAnswer}
 use Rattle.config.specs.declared.TimingAnswer.the-variants.{Accepted, Refused}
 
+-- by the numbers of "Refusals by operation"
 abbrev pub refusalNumber : Refusal → ℕ
 refusalNumber State = 19
 refusalNumber Part = 20

@@ -100,6 +100,7 @@ joined s r =
       count = s .count + 1;
     }
 
+-- a refused offer changes nothing
 abbrev pub notOffered : Controller → ℕ → Offer
 notOffered s n = record { outcome = refused n; after = s }
 
@@ -116,6 +117,7 @@ offerBy (value t) s r =
     (offerIf (ltb (s .count) 16) 27 s
     (record { outcome = value tt; after = joined s r })))
 
+-- an offer, to any state
 abbrev pub offerOf : Controller → Request → Offer
 offerOf s r = offerBy (timingOf (s .config)) s r
 
@@ -136,6 +138,7 @@ passes t s clock w = eqb (wordBreach t s clock 0xC0000 (w .first)) 0 && eqb (wor
 abbrev pub oldestRequest : Controller → Request
 oldestRequest s = getD (s .waiting) 0 vacant
 
+-- the pair that opens at the clock, or none
 abbrev pub opensNext : Timing → Controller → OpenPair
 opensNext t s =
     let next = nextPair t (s .stamps) (s .clock) (s .count) in
@@ -197,5 +200,6 @@ tickBy (value t) s =
     (tickIf (ltb (s .clock) 16777216) 24 s
     (cond (isOpen (s .opened)) (closing t s) (starting t s)))
 
+-- a tick, of any state
 abbrev pub tickOf : Controller → Tick
 tickOf s = tickBy (timingOf (s .config)) s

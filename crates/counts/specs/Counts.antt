@@ -29,6 +29,7 @@ abbrev pub deslsFrom : Past → List ℕ → ℕ
 deslsFrom p [] = 0
 deslsFrom p (w ∷ ws) = deslAt (p .opened) w + deslsFrom (extend p w) ws
 
+-- the five counts
 abbrev pub countsOf : List ℕ → CommandCounts
 countsOf words =
     let pairs = pastFrom nothing words .pairs in

@@ -29,5 +29,6 @@ lineBy count (value accepted) = acceptedText ++ decimal count ++ (10 ∷ [])
 lineBy count (value (breach clock n)) = breachText ++ decimal clock ++ (32 ∷ []) ++ decimal n ++ (10 ∷ [])
 lineBy count (refused n) = refusedText ++ decimal n ++ (10 ∷ [])
 
+-- the line for the bytes that were read
 abbrev pub lineOf : List ℕ → List ℕ
 lineOf bytes = lineBy (length bytes / 4) (markOf bytes)

@@ -54,6 +54,7 @@ candidate t p waiting = orElse (startUp (p .pairs)) (cond (refreshDue t p) (some
 abbrev pub breachless : Timing → Past → Pair → Bool
 breachless t p w = eqb (breachAt t p (w .first)) 0 && eqb (breachAt t (extend p (w .first)) (w .second)) 0
 
+-- the pair o, if its words breach nothing
 abbrev pub opening : Timing → Past → Option Operation → Option Operation
 opening t p none = none
 opening t p (some o) = cond (breachless t p (pairOf t o)) (some o) none
@@ -62,6 +63,7 @@ opening t p (some o) = cond (breachless t p (pairOf t o)) (some o) none
 abbrev pub nextOpened : Timing → Course → Option Operation
 nextOpened t c = opening t (c .past) (candidate t (c .past) (c .waiting))
 
+-- the first word of the pair that opens, or DESL
 abbrev pub firstWord : Timing → Option Operation → ℕ
 firstWord t none = 0xC0000
 firstWord t (some o) = pairOf t o .first
@@ -79,6 +81,7 @@ pub record Advance : Type 0 where
   pub word : ℕ
   pub after : Course
 
+-- the word w is given, and this is open and waiting then
 abbrev pub giving : ℕ → Course → Option Operation → List Request → Advance
 giving w c opened waiting = record { word = w; after = record { past = extend (c .past) w; opened = opened; waiting = waiting } }
 

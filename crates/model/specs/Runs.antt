@@ -20,6 +20,7 @@ use Rattle.controller.specs.States.{fresh}
 use Rattle.controller.specs.Steps.{held, offerOf, tickOf}
 use Rattle.controller.specs.declared.Controller.{Controller}
 
+-- a call of the list
 pub data Call : Type 0 where
   offer : Request → Call
   tick : Call
@@ -55,6 +56,7 @@ abbrev pub runFrom : Run → List Call → Run
 runFrom r [] = r
 runFrom r (x ∷ xs) = runFrom (called r x) xs
 
+-- the calls from a fresh controller
 abbrev pub run : Config → List Call → Run
 run c calls = runFrom (record { words = []; accepted = []; controller = fresh c }) calls
 
@@ -75,9 +77,11 @@ abbrev pub prescribedFrom : Timing → Prescribed → List Call → Prescribed
 prescribedFrom t k [] = k
 prescribedFrom t k (x ∷ xs) = prescribedFrom t (followed t k x) xs
 
+-- the same from power-up
 abbrev pub prescribed : Timing → List Call → Prescribed
 prescribed t calls = prescribedFrom t (record { words = []; course = laid.start }) calls
 
+-- the closed pairs of a trace, newest first
 abbrev pub pairsOf : List ℕ → List ClosedPair
 pairsOf words = pastFrom nothing words .pairs
 

@@ -112,5 +112,6 @@ stepBy (value t) s w =
     (stepIf (ltb (s .clock) 16777216) 24 s
     (judged t s w)))
 
+-- a step, on any state
 abbrev pub stepOf : Checker → ℕ → Step
 stepOf s w = stepBy (timingOf (s .config)) s w

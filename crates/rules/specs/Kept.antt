@@ -14,11 +14,13 @@ pub record Kept : Type 0 where
   pub first : ℕ
   pub stamps : Timestamps
 
+-- word by word
 abbrev pub keptFrom : Kept → List ℕ → Kept
 keptFrom k [] = k
 keptFrom k (w ∷ ws) =
     keptFrom (record { clock = k .clock + 1; first = nextFirst (k .first) w; stamps = nextStamps (k .stamps) (k .clock) (k .first) w }) ws
 
+-- from power-up on
 abbrev pub kept : List ℕ → Kept
 kept ws = keptFrom (record { clock = 0; first = 0xC0000; stamps = never }) ws
 

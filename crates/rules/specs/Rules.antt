@@ -128,6 +128,7 @@ atClosing rule t p w = by (p .opened)
     by none = false
     by (some first) = rule t (p .pairs) (p .clock - 1) first w
 
+-- the twelve in their order: 1 to 3 at each word, 4 to 12 at each closing word
 abbrev pub rules : List (Timing → Past → ℕ → Bool)
 rules =
     rule1
@@ -149,5 +150,6 @@ abbrev pub lowest : ℕ → List Bool → ℕ
 lowest n [] = 0
 lowest n (b ∷ bs) = cond b n (lowest (suc n) bs)
 
+-- the breach of the word w after the past p: its lowest number, or 0
 abbrev pub breachAt : Timing → Past → ℕ → ℕ
 breachAt t p w = lowest 1 (map (λ rule. rule t p w) rules)

@@ -64,7 +64,7 @@ wordBreach t s k first w =
     let early = earlyBreach (t .refi) (getD (s .refs) 0 0) k w in
     cond (eqb early 0) (cond (opens first) (closingBreach t s k first w) 0) early
 
--- what is kept once a pair has closed at k
+-- what is kept once a read or write has closed at k; a mode; a refresh
 abbrev pub withAccess : Timestamps → ℕ → Bool → ℕ → Timestamps
 withAccess s k read bank =
     record {
@@ -114,6 +114,7 @@ withRefresh s k =
       refs = shifted k (s .refs);
     }
 
+-- what is kept once any pair has closed at k
 abbrev pub remembered : Timestamps → ℕ → ℕ → ℕ → Timestamps
 remembered s k first second =
     cond (lal second) (withAccess s k (rda first) (bankOf first))
@@ -126,6 +127,7 @@ nextStamps s k first w = cond (opens first) (remembered s k first w) s
 abbrev pub nextFirst : ℕ → ℕ → ℕ
 nextFirst first w = cond (high 18 first && opens w) w 0xC0000
 
+-- nothing is remembered
 abbrev pub never : Timestamps
 never =
     let none : List ℕ = 0 ∷ 0 ∷ 0 ∷ 0 ∷ 0 ∷ 0 ∷ 0 ∷ 0 ∷ [] in

@@ -11,6 +11,7 @@ use Rattle.words.specs.Words.{wordsOf}
 use Rattle.rules.specs.History.{Past, nothing, extend}
 use Rattle.rules.specs.Rules.{breachAt}
 
+-- accepted, or a breach by its clock and its number
 pub data Judgement : Type 0 where
   accepted : Judgement
   breach : ℕ → ℕ → Judgement
@@ -25,6 +26,7 @@ abbrev pub judgeFrom : Timing → Past → List ℕ → Judgement
 judgeFrom t p [] = accepted
 judgeFrom t p (w ∷ ws) = let rest = judgeFrom t (extend p w) ws in lead (breachAt t p w) (p .clock) rest
 
+-- a trace from power-up on
 abbrev pub judge : Timing → List ℕ → Judgement
 judge t words = judgeFrom t nothing words
 
