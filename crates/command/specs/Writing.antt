@@ -1,6 +1,6 @@
 -- When an operation is in range, and the two words that it is written to. Pins not named are low.
 use Prim.Native.Nat.{ℕ, _+_, _/_, _^_}
-use mathlib.Core.Bool.{Bool, true, false, cond, not, _&&_, _||_}
+use mathlib.Core.Bool.{Bool, true, cond, not, _&&_, _||_}
 use lib.Dec.{eqb, leb}
 use Rattle.config.specs.Outcome.{Outcome, value, require, given}
 use Rattle.config.specs.Configuration.{timingOf}

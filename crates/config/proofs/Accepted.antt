@@ -1,5 +1,5 @@
 -- A call that gave a value had an accepted configuration: all its tests held, and its timing is the derived one. Assumes nothing.
-use mathlib.Core.Path.{_≡_, sym, ap, subst}
+use mathlib.Core.Path.{_≡_, sym}
 use mathlib.Core.Bool.{Bool, true, false}
 use native.Mathlib.Omega.{arith}
 use Rattle.config.specs.Outcome.{Outcome, value, refused, require, given}

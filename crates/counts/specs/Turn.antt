@@ -1,6 +1,6 @@
 -- What one word adds, given the first word of the open pair, or a word with CS high where none is open.
 use Prim.Native.Nat.{ℕ, _+_, _≤_}
-use mathlib.Core.Bool.{not, _&&_}
+use mathlib.Core.Bool.{_&&_}
 use Rattle.command.specs.Pins.{high, level}
 use Rattle.command.specs.Reading.{opens, isRead, isWrite, isMode, isRefresh}
 use Rattle.counts.specs.declared.CommandCounts.{CommandCounts}

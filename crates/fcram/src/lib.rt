@@ -4,7 +4,6 @@ use config::Config;
 use config::Picoseconds;
 use protocol::Verdict;
 ghost use mathlib.Core.Path.{_≡_};
-ghost use Prim.Native.Nat.{_≤_};
 ghost use Rattle.rules.specs.Verdict.{checkBytesOf};
 ghost use Rattle.protocol.specs.Steps.{verdictOutcome};
 ghost use Rattle.fcram.specs.Number.{numberOf, configOf};

@@ -6,7 +6,6 @@ use borrow.Author.Tests.{le-leb}
 use lib.ListN.{length}
 use Rattle.config.specs.Outcome.{Outcome}
 use Rattle.config.specs.Configuration.{institute}
-use Rattle.config.specs.declared.Config.{Config}
 use Rattle.rules.specs.Verdict.{Judgement, checkBytesOf}
 use Rattle.marker.specs.Mark.{markOf, lineBy, lineOf}
 

@@ -5,10 +5,8 @@ use config::Refusal;
 use protocol::Verdict;
 ghost use mathlib.Core.Path.{_≡_};
 ghost use Prim.Native.Nat.{_≤_, _/_};
-ghost use lib.ListN.{length};
 ghost use Rattle.config.specs.Outcome.{value, refused};
 ghost use Rattle.rules.specs.Verdict.{accepted, breach};
-ghost use Rattle.protocol.specs.Steps.{verdictOutcome};
 ghost use Rattle.marker.specs.Text.{text};
 ghost use Rattle.marker.specs.Mark.{lineBy, lineOf};
 

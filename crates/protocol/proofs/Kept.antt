@@ -1,7 +1,7 @@
 -- What is kept of a past is before its clock, so 19 has no ground. Assumes nothing.
 use Prim.Native.Nat.{ℕ, zero, suc, _+_, _-_, _≤_, _<_}
-use mathlib.Core.Path.{_≡_, refl, sym, _∙_, ap, ap₂}
-use mathlib.Core.Bool.{Bool, true, false, cond, not, _&&_, _||_, or-true, and-false}
+use mathlib.Core.Path.{_≡_, refl}
+use mathlib.Core.Bool.{Bool, true, false, cond, or-true, and-false}
 use mathlib.Core.List.{List, [], _∷_}
 use mathlib.Core.Option.{Option, none, some}
 use native.Mathlib.Omega.{arith}
@@ -9,7 +9,6 @@ use native.Mathlib.Nat.{le-refl}
 use borrow.Author.Tests.{lt-ltb, le-leb, ne-eqb}
 use lib.ListN.{getD}
 use lib.Dec.{eqb, leb, ltb}
-use Rattle.command.specs.Reading.{opens}
 use Rattle.rules.specs.History.{ClosedPair}
 use Rattle.rules.specs.Rules.{closings, oldest, wasExtended, wasRegular, wasMode, wasRead, wasWrite, wasRefresh}
 use Rattle.rules.proofs.Newest.{Ordered, latest}

@@ -3,7 +3,7 @@ use Prim.Native.Nat.{ℕ, zero, suc, _+_, _≤_, _<_}
 use mathlib.Core.Path.{_≡_, refl, sym, _∙_, ap, subst}
 use mathlib.Core.Bool.{Bool, true, false, cond, true≢false}
 use mathlib.Core.List.{List, [], _∷_}
-use mathlib.Core.Option.{Option, none, some}
+use mathlib.Core.Option.{Option, none}
 use native.Mathlib.Omega.{arith}
 use borrow.Author.Tests.{lt-ltb, eq-eqb, ne-eqb, ltb-true}
 use lib.ListN.{length}
@@ -15,10 +15,10 @@ use Rattle.config.specs.declared.Timing.{Timing}
 use Rattle.config.proofs.Outcomes.{refused-value, same-number, refused-by}
 use Rattle.config.proofs.Accepted.{config-19}
 use Rattle.rules.specs.History.{ClosedPair, Past, extendBy}
-use Rattle.rules.specs.Verdict.{Judgement, accepted, breach, judge}
+use Rattle.rules.specs.Verdict.{accepted, breach, judge}
 use Rattle.rules.specs.Stamps.{wordBreach, nextStamps, nextFirst}
-use Rattle.protocol.specs.Steps.{Step, fresh, clockFits, judged, stepBy, stepOf}
-use Rattle.protocol.specs.Refinement.{follow, stepping, afterAll, Refinement}
+use Rattle.protocol.specs.Steps.{Step, fresh, clockFits, stepBy, stepOf}
+use Rattle.protocol.specs.Refinement.{stepping, afterAll, Refinement}
 use Rattle.rules.specs.declared.stamps.Timestamps.{Timestamps}
 use Rattle.protocol.specs.declared.checker.Checker.{Checker}
 use Rattle.rules.proofs.Summary.{summary}

@@ -6,7 +6,7 @@ use mathlib.Core.List.{List, [], _∷_}
 use native.Mathlib.Omega.{arith}
 use borrow.Author.Tests.{ne-eqb, le-leb, lt-leb, lt-ltb, le-ltb, ltb-true, ltb-false}
 use lib.ListN.{length, getD}
-use lib.Dec.{eqb, leb, ltb, leb·zero, leb·suc-suc}
+use lib.Dec.{eqb, leb, ltb, leb·suc-suc}
 use Rattle.rules.specs.History.{ClosedPair}
 use Rattle.rules.specs.Rules.{closings, oldest}
 

@@ -1,7 +1,7 @@
 -- What is kept of a history, as a function of it; a pair that closes changes it as `remembered` says. Assumes nothing.
 use Prim.Native.Nat.{ℕ, zero, suc, _+_, _<_, _/_, _^_}
-use mathlib.Core.Path.{_≡_, refl, sym, _∙_, ap, fun-ext}
-use mathlib.Core.Bool.{Bool, true, false, cond, not, _&&_}
+use mathlib.Core.Path.{_≡_, refl, _∙_, ap, fun-ext}
+use mathlib.Core.Bool.{Bool, true, false, cond, _&&_}
 use mathlib.Core.List.{List, [], _∷_}
 use native.Mathlib.Omega.{arith}
 use native.Mathlib.Nat.{mod-lt}

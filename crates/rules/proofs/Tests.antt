@@ -1,13 +1,13 @@
 -- Each published rule, over the whole history, is the test of what is kept of it. Assumes nothing.
-use Prim.Native.Nat.{ℕ, zero, suc, _+_, _-_, _≤_, _<_, _/_}
+use Prim.Native.Nat.{ℕ, zero, suc, _+_, _-_, _≤_, _/_}
 use mathlib.Core.Path.{_≡_, refl, sym, _∙_, ap, ap₂}
 use mathlib.Core.Bool.{Bool, true, false, cond, not, _&&_, _||_, Bool·not-not}
 use mathlib.Core.List.{List, [], _∷_}
 use native.Mathlib.Omega.{arith}
-use lib.ListN.{length, getD}
-use lib.Dec.{eqb, leb, ltb}
+use lib.ListN.{getD}
+use lib.Dec.{eqb, ltb}
 use Rattle.config.specs.declared.Timing.{Timing}
-use Rattle.command.specs.Reading.{rda, lal, isRead, isWrite, isMode, isRefresh}
+use Rattle.command.specs.Reading.{rda, lal, isRefresh}
 use Rattle.rules.specs.History.{ClosedPair, Past}
 use Rattle.rules.specs.Rules.{wasRead, wasWrite, wasAccess, wasMode, wasRefresh, wasRegular, wasExtended, bankOf, earlier, closings, oldest, rule3, rule6, rule7, rule8, rule9, rule10, rule11, rule12}
 use Rattle.rules.specs.Stamps.{near, overdue, bankStamp, notReady, tooClose, busy}

@@ -1,8 +1,8 @@
 -- A word after a past is judged, and remembered, as the checker does it; so the verdict on a trace is that of a run over what is kept.
 -- Assumes nothing.
 use Prim.Native.Nat.{ℕ, zero, suc, _+_, _-_, _≤_, _<_}
-use mathlib.Core.Path.{_≡_, refl, sym, _∙_, ap, ap₂, subst}
-use mathlib.Core.Bool.{Bool, true, false, cond, not, _&&_, _||_}
+use mathlib.Core.Path.{_≡_, refl, sym, _∙_, ap, ap₂}
+use mathlib.Core.Bool.{Bool, true, false, cond, not}
 use mathlib.Core.List.{List, [], _∷_, _++_}
 use mathlib.Core.Option.{Option, none, some}
 use native.Mathlib.Omega.{arith}
@@ -13,11 +13,11 @@ use lib.Seq.{drop-cons}
 use lib.Dec.{eqb}
 use Rattle.config.specs.declared.Timing.{Timing}
 use Rattle.command.specs.Pins.{high, strayBit}
-use Rattle.command.specs.Reading.{opens, modeWrong, laneReserved}
-use Rattle.rules.specs.History.{ClosedPair, Past, nothing, extend, extendBy, pastFrom}
-use Rattle.rules.specs.Rules.{rule3, rule6, rule7, rule8, rule9, rule10, rule11, rule12, lowest, breachAt}
+use Rattle.command.specs.Reading.{opens}
+use Rattle.rules.specs.History.{ClosedPair, Past, extend, extendBy, pastFrom}
+use Rattle.rules.specs.Rules.{lowest, breachAt}
 use Rattle.rules.specs.Verdict.{Judgement, accepted, breach, lead, judgeFrom, judge}
-use Rattle.rules.specs.Stamps.{overdue, earlyBreach, closingBreach, wordBreach, remembered, nextStamps, nextFirst, never}
+use Rattle.rules.specs.Stamps.{overdue, closingBreach, wordBreach, remembered, nextStamps, nextFirst, never}
 use Rattle.rules.specs.declared.stamps.Timestamps.{Timestamps}
 use Rattle.rules.proofs.Newest.{Ordered}
 use Rattle.rules.proofs.Summary.{summary, summary-step}

@@ -1,6 +1,6 @@
 -- The past of a clock, by the word rules alone: nothing is judged here.
 use Prim.Native.Nat.{ℕ, _+_, _-_}
-use mathlib.Core.Bool.{Bool, true, false, cond}
+use mathlib.Core.Bool.{cond}
 use mathlib.Core.List.{List, [], _∷_}
 use mathlib.Core.Option.{Option, none, some}
 use Rattle.command.specs.Reading.{opens}

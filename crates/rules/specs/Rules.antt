@@ -1,7 +1,7 @@
 -- The rules and breach numbers, over the whole history of closed pairs. Rules 1 to 3 are judged at each word k, 4 to 12 at each
 -- closing word k, whose pair began at u = k − 1.
 use Prim.Native.Nat.{ℕ, suc, _+_, _-_, _/_}
-use mathlib.Core.Bool.{Bool, true, false, cond, not, _&&_, _||_}
+use mathlib.Core.Bool.{Bool, false, cond, not, _&&_, _||_}
 use mathlib.Core.List.{List, [], _∷_, map}
 use mathlib.Core.Option.{Option, none, some}
 use lib.ListN.{length, getD}

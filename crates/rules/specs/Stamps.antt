@@ -1,10 +1,10 @@
 -- What is kept of a past, and the rules as tests of that. A timestamp is the clock of an event's closing word; 0 is never, since no
 -- pair closes at clock 0. At a closing word k, k less a timestamp is u − t.
 use Prim.Native.Nat.{ℕ, _+_, _/_}
-use mathlib.Core.Bool.{Bool, true, false, cond, not, _&&_, _||_}
+use mathlib.Core.Bool.{Bool, cond, not, _&&_, _||_}
 use mathlib.Core.List.{List, [], _∷_}
 use lib.ListN.{getD, set}
-use lib.Dec.{eqb, leb, ltb}
+use lib.Dec.{eqb, ltb}
 use Rattle.config.specs.declared.Timing.{Timing}
 use Rattle.command.specs.Pins.{high, strayBit}
 use Rattle.command.specs.Reading.{opens, rda, lal, isRefresh, modeWrong, laneReserved}

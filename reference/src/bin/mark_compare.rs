@@ -71,7 +71,11 @@ impl Marker {
         let mut input = [0, 0, 12, 0].repeat(words);
         input.extend([0; 4]);
         let first = 4 * self.random.below(words as u32) as usize;
-        let pause = Duration::from_micros(self.random.below(1_000).into());
+        // At times so long that the program has met the failed read before the rest comes.
+        let pause = match words % 100 {
+            0 => Duration::from_secs(5),
+            _ => Duration::from_micros(self.random.below(1_000).into()),
+        };
         let feed = Feed::Unready(first, pause);
         let wanted = marker_line::<Both>(&input);
         let output = match self.output(&input, feed) {
