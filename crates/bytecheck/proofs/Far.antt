@@ -10,7 +10,7 @@ use lib.Dec.{eqb, leb}
 use Rattle.config.proofs.Bounds.{both}
 use Rattle.config.specs.declared.Timing.{Timing}
 use Rattle.command.specs.Pins.{high}
-use Rattle.command.specs.Reading.{rda, lal}
+use Rattle.command.specs.Pairs.{rda, lal}
 use Rattle.rules.specs.Rules.{bankOf}
 use Rattle.rules.specs.Stamps.{near, overdue, earlyBreach, closingBreach, wordBreach, withAccess, nextStamps, nextFirst}
 use Rattle.rules.specs.declared.stamps.Timestamps.{Timestamps}

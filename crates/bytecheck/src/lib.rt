@@ -5,6 +5,7 @@ use command::pins::BA0;
 use command::pins::CS;
 use command::pins::FN;
 use command::pins::PD;
+use command::pins::high;
 use config::Config;
 use config::Refusal;
 use config::Timing;
@@ -41,16 +42,16 @@ fn judged_bytes(timing: Timing, bytes: &[u8]) -> Verdict
     while (clock as usize) < bytes.len() / 4 {
         let word = words::word_at(bytes, clock as usize);
         let bank = (first / BA0 % 8) as usize;
-        let until = due(timing.refi, stamps.refs[0]);
+        let until = due(timing.refi(), stamps.refs[0]);
         if (word / PD == 1) & (clock as u64 <= until) {
-            let idle = first / CS % 2 == 1;
+            let idle = high(first, CS);
             if idle {
                 first = next_first(first, word);
                 clock = past_desl(bytes, first, clock + 1, until);
                 continue;
             }
             if clear(timing, stamps, stamps.banks[bank], from, clock, first, word) {
-                let rda = first / FN % 2 == 1;
+                let rda = high(first, FN);
                 stamps.banks[bank] = clock;
                 stamps.read = choose(rda, clock, stamps.read);
                 stamps.write = choose(rda, stamps.write, clock);

@@ -1,6 +1,7 @@
 // A quick look: what is true only of words that breach nothing, by a few comparisons.
 use command::pins::CS;
 use command::pins::FN;
+use command::pins::high;
 use config::Timing;
 use config::choose;
 use rules::DESL;
@@ -9,7 +10,7 @@ ghost use mathlib.Core.Path.{_≡_};
 ghost use mathlib.Core.Bool.{true, false};
 ghost use Prim.Native.Nat.{ℕ, _+_, _≤_, _/_};
 ghost use lib.ListN.{length};
-ghost use Rattle.command.specs.Reading.{lal};
+ghost use Rattle.command.specs.Pairs.{lal};
 ghost use Rattle.words.specs.Words.{wordsOf};
 ghost use Rattle.rules.specs.Stamps.{overdue, bankStamp, closingBreach};
 ghost use Rattle.bytecheck.specs.Quick.{SettledFrom, OnlyDesl};
@@ -48,7 +49,10 @@ pub(crate) fn settled_from(timing: Timing, stamps: Timestamps) -> u64
     if (stamps.extended == 0) | (stamps.regular == 0) | (refs[1] == 0) {
         return NEVER;
     }
-    let calm = later(plus(stamps.mode, timing.rsc), plus(refs[0], timing.refc));
+    let calm = later(
+        plus(stamps.mode, timing.rsc()),
+        plus(refs[0], timing.refc()),
+    );
     later(plus(stamps.extended, 201), calm)
 }
 
@@ -66,29 +70,29 @@ pub(crate) fn clear(
     ensures { λ r. ⌜ (r ≡ true → (lal word ≡ true) × (closingBreach timing stamps clock first word ≡ 0)) ⌝ }
 {
     let now = clock as u64;
-    let rda = first / FN % 2 == 1;
+    let rda = high(first, FN);
     let other = choose(rda, stamps.write, stamps.read);
-    let turn = choose(rda, timing.wrd, timing.rwd);
-    let lal = word / CS % 2 == 1;
+    let turn = choose(rda, timing.wrd(), timing.rwd());
+    let lal = high(word, CS);
     if !lal {
         return false;
     }
     if now < from {
         return false;
     }
-    if now < plus(bank, timing.rc) {
+    if now < plus(bank, timing.rc()) {
         return false;
     }
-    if now < plus(stamps.read, timing.rbd) {
+    if now < plus(stamps.read, timing.rbd()) {
         return false;
     }
-    if now < plus(stamps.write, timing.rbd) {
+    if now < plus(stamps.write, timing.rbd()) {
         return false;
     }
     if now <= plus(other, turn) {
         return false;
     }
-    !command::lane_reserved(timing, first, word)
+    !reading::lane_reserved(timing, first, word)
 }
 
 // Passes over the DESL words from a clock on that stand no later than `until`, where no pair is open.

@@ -1,5 +1,3 @@
--- What the contracts of this crate say, in the order of the paper's section "The word at each clock".
+-- The pins of a word, and pairs of words by kind.
 pub mod Pins
-pub mod Reading
-pub mod Writing
-pub mod Answers
+pub mod Pairs

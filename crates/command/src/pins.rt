@@ -2,7 +2,7 @@
 ghost use mathlib.Core.Path.{_≡_};
 ghost use mathlib.Core.Bool.{cond};
 ghost use Prim.Native.Nat.{_≤_};
-ghost use Rattle.command.specs.Pins.{level};
+ghost use Rattle.command.specs.Pins.{level, highBy};
 
 pub const A0: u32 = 0x1;
 
@@ -32,6 +32,16 @@ pub const CS: u32 = 0x40000;
 
 pub const PD: u32 = 0x80000;
 
+// The pin of this weight is high; there is none of weight 0.
+pub fn high(word: u32, pin: u32) -> bool
+    ensures { λ r. ⌜ r ≡ highBy pin word ⌝ }
+{
+    if pin == 0 {
+        return false;
+    }
+    word / pin % 2 == 1
+}
+
 // A pin's level as a number.
 pub fn bit(high: bool) -> u32
     ensures { λ r. ⌜ (r ≡ level high) × (r ≤ 1) ⌝ }
@@ -40,7 +50,7 @@ pub fn bit(high: bool) -> u32
 }
 
 // n where the test holds, and otherwise 0.
-pub(crate) fn kept(test: bool, n: u32) -> u32
+pub fn kept(test: bool, n: u32) -> u32
     ensures { λ r. ⌜ (r ≡ cond test n 0) × (r ≤ n) ⌝ }
 {
     if test { n } else { 0 }

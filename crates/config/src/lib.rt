@@ -1,4 +1,5 @@
 // The configuration of a memory part (the paper's sheet), and the timing that an accepted one yields.
+mod figures;
 mod refusal;
 
 pub use refusal::Refusal;
@@ -28,24 +29,24 @@ pub struct Config {
     pub refc: Clocks,
 }
 
-// What an accepted configuration yields. Every spacing is in clocks.
+// What an accepted configuration yields; nothing but `Config::timing` makes one. Every spacing is in clocks.
 pub struct Timing {
-    pub cl: u32,
-    pub bl: u32,
-    pub organisation: u32,
-    pub rbd: u32,
-    pub rwd: u32,
-    pub wrd: u32,
-    pub rsc: u32,
-    pub refc: u32,
-    pub rc: u32,
-    pub wl: u32,
+    cl: u32,
+    bl: u32,
+    organisation: u32,
+    rbd: u32,
+    rwd: u32,
+    wrd: u32,
+    rsc: u32,
+    refc: u32,
+    rc: u32,
+    wl: u32,
     // The longest time from one REF word to the next (the paper's D).
-    pub refi: u32,
+    refi: u32,
     // The least span of eight refresh intervals (the paper's W).
-    pub window: u32,
+    window: u32,
     // The longest spacing between two reads or writes (the paper's S).
-    pub spacing: u32,
+    spacing: u32,
 }
 
 // The timing, or the refusal of the configuration.

@@ -11,7 +11,7 @@ use lib.ListN.{length, getD, set, take, drop, length-drop, drop-of-length-le}
 use lib.Seq.{length-take-le, take-suc, drop-cons, getD-take, getD-drop, append-snoc, set-at}
 use Rattle.config.proofs.Bounds.{both}
 use Rattle.config.specs.declared.Timing.{Timing}
-use Rattle.command.specs.Writing.{requestFits}
+use Rattle.writing.specs.Writing.{requestFits}
 use Rattle.command.specs.declared.operation.Request.{Request}
 use Rattle.protocol.specs.Steps.{clockFits}
 use Rattle.controller.specs.States.{vacant}

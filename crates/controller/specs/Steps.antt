@@ -8,7 +8,7 @@ use Rattle.config.specs.Outcome.{Outcome, value, refused}
 use Rattle.config.specs.Numbers.{refusalNumber}
 use Rattle.config.specs.Configuration.{timingOf}
 use Rattle.config.specs.declared.Timing.{Timing}
-use Rattle.command.specs.Writing.{pairOf, requestFits}
+use Rattle.writing.specs.Writing.{pairOf, requestFits}
 use Rattle.command.specs.declared.operation.Request.{Request}
 use Rattle.command.specs.declared.operation.Pair.{Pair}
 use Rattle.command.specs.declared.operation.Operation.the-variants.{Access, Regular as RegularMode, Extended as ExtendedMode, Refresh as Refreshing}

@@ -21,10 +21,10 @@ pub(crate) fn pair_words(timing: Timing, opened: OpenPair, oldest: Request) -> P
             first: DESL,
             second: DESL,
         },
-        OpenPair::Extended => command::encode(timing, Operation::Extended(0)),
-        OpenPair::Regular => command::encode(timing, Operation::Regular(false)),
-        OpenPair::Refresh => command::encode(timing, Operation::Refresh),
-        OpenPair::Oldest => command::encode(timing, Operation::Access(oldest)),
+        OpenPair::Extended => writing::encode(timing, Operation::Extended(0)),
+        OpenPair::Regular => writing::encode(timing, Operation::Regular(false)),
+        OpenPair::Refresh => writing::encode(timing, Operation::Refresh),
+        OpenPair::Oldest => writing::encode(timing, Operation::Access(oldest)),
     }
 }
 
@@ -40,7 +40,7 @@ fn next_pair(timing: Timing, stamps: Timestamps, clock: u32, count: u32) -> Open
     ensures { λ r. ⌜ r ≡ nextPair timing stamps clock count ⌝ }
 {
     let refs = stamps.refs;
-    let due = refresh_due(refs[0], timing.refi, clock, timing.rc);
+    let due = refresh_due(refs[0], timing.refi(), clock, timing.rc());
     if stamps.extended == 0 {
         return OpenPair::Extended;
     }

@@ -49,7 +49,7 @@ pub(crate) fn offer_by(timing: Timing, controller: Controller, request: Request)
     if !state_fits(timing, controller) {
         return not_offered(controller, Refusal::State);
     }
-    if !command::request_fits(timing, request) {
+    if !writing::request_fits(timing, request) {
         return not_offered(controller, Refusal::Field);
     }
     if controller.count < Controller::CAPACITY {

@@ -17,7 +17,7 @@ fn waiting_fit(timing: Timing, waiting: [Request; 16], count: u32) -> bool
     let mut i: u32 = 0;
     while i < count {
         let request = waiting[i as usize];
-        if !command::request_fits(timing, request) {
+        if !writing::request_fits(timing, request) {
             return false;
         }
         i += 1;

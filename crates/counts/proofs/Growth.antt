@@ -8,7 +8,7 @@ use native.Mathlib.Omega.{arith}
 use native.Mathlib.Nat.{add-zero, add-comm}
 use borrow.Author.Tests.{not-true}
 use Rattle.command.specs.Pins.{high, level}
-use Rattle.command.specs.Reading.{opens, isRead, isWrite, isMode, isRefresh}
+use Rattle.command.specs.Pairs.{opens, isRead, isWrite, isMode, isRefresh}
 use Rattle.rules.specs.History.{ClosedPair, Past, nothing, extend, extendBy, pastFrom}
 use Rattle.rules.specs.Rules.{wasRead, wasWrite, wasMode, wasRefresh}
 use Rattle.rules.specs.Stamps.{nextFirst}

@@ -8,7 +8,7 @@ use lib.ListN.{length}
 use lib.Dec.{leb}
 use Rattle.config.specs.Numbers.{refusalNumber}
 use Rattle.command.specs.Pins.{level}
-use Rattle.command.specs.Reading.{opens}
+use Rattle.command.specs.Pairs.{opens}
 use Rattle.rules.specs.History.{ClosedPair, Past, nothing, extend, pastFrom}
 use Rattle.rules.specs.Rules.{wasRead, wasWrite, wasMode, wasRefresh}
 use Rattle.counts.specs.declared.CommandCounts.{CommandCounts}

@@ -2,7 +2,7 @@
 use Prim.Native.Nat.{ℕ, _+_, _≤_}
 use mathlib.Core.Bool.{_&&_}
 use Rattle.command.specs.Pins.{high, level}
-use Rattle.command.specs.Reading.{opens, isRead, isWrite, isMode, isRefresh}
+use Rattle.command.specs.Pairs.{opens, isRead, isWrite, isMode, isRefresh}
 use Rattle.counts.specs.declared.CommandCounts.{CommandCounts}
 
 abbrev pub counted : CommandCounts → ℕ → ℕ → CommandCounts

@@ -2,6 +2,7 @@
 use command::pins::CS;
 use command::pins::FN;
 use command::pins::bit;
+use command::pins::high;
 use config::Refusal;
 use rules::DESL;
 use rules::next_first;
@@ -39,15 +40,15 @@ fn counted(counts: CommandCounts, words: usize, first: u32, word: u32) -> Comman
     requires { ⌜ (words < 65536) × Below words counts ⌝ }
     ensures { λ r. ⌜ (r ≡ counted counts first word) × Below (words + 1) r ⌝ }
 {
-    let opened = !(first / CS % 2 == 1);
-    let rda = first / FN % 2 == 1;
-    let lal = word / CS % 2 == 1;
+    let opened = !high(first, CS);
+    let rda = high(first, FN);
+    let lal = high(word, CS);
     CommandCounts {
         reads: counts.reads + bit(opened & (rda & lal)),
         writes: counts.writes + bit(opened & (!rda & lal)),
         modes: counts.modes + bit(opened & (rda & !lal)),
         refreshes: counts.refreshes + bit(opened & (!rda & !lal)),
-        desls: counts.desls + bit((first / CS % 2 == 1) & lal),
+        desls: counts.desls + bit(high(first, CS) & lal),
     }
 }
 

@@ -12,8 +12,8 @@ use borrow.Author.Tests.{ne-eqb, le-ltb}
 use lib.ListN.{getD}
 use lib.Dec.{eqb}
 use Rattle.config.specs.declared.Timing.{Timing}
-use Rattle.command.specs.Reading.{lal}
-use Rattle.command.specs.Writing.{pairOf, requestFits}
+use Rattle.command.specs.Pairs.{lal}
+use Rattle.writing.specs.Writing.{pairOf, requestFits}
 use Rattle.command.specs.declared.operation.Request.{Request}
 use Rattle.command.specs.declared.operation.Operation.the-variants.{Access}
 use Rattle.roundtrip.proofs.WrittenBack.{written-back}

@@ -9,8 +9,8 @@ use mathlib.Core.Logic.{⊎-elim}
 use native.Mathlib.Omega.{arith}
 use native.Mathlib.Nat.{le-trans, le-refl}
 use Rattle.config.specs.declared.Timing.{Timing}
-use Rattle.command.specs.Reading.{rda}
-use Rattle.command.specs.Writing.{pairOf, requestFits}
+use Rattle.command.specs.Pairs.{rda}
+use Rattle.writing.specs.Writing.{pairOf, requestFits}
 use Rattle.command.specs.declared.operation.Request.{Request}
 use Rattle.command.specs.declared.operation.Operation.{Operation}
 use Rattle.command.specs.declared.operation.Operation.the-variants.{Access, Regular, Extended, Refresh}

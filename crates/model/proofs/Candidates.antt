@@ -6,8 +6,8 @@ use mathlib.Core.Option.{Option, none, some}
 use lib.ListN.{length}
 use lib.Dec.{leb}
 use Rattle.config.specs.declared.Timing.{Timing}
-use Rattle.command.specs.Reading.{opens}
-use Rattle.command.specs.Writing.{pairOf, operationFits, requestFits}
+use Rattle.command.specs.Pairs.{opens}
+use Rattle.writing.specs.Writing.{pairOf, operationFits, requestFits}
 use Rattle.command.specs.declared.operation.Request.{Request}
 use Rattle.command.specs.declared.operation.Operation.{Operation}
 use Rattle.command.specs.declared.operation.Operation.the-variants.{Regular, Extended, Refresh}

@@ -13,7 +13,7 @@ use Rattle.config.specs.declared.Config.{Config}
 use Rattle.config.specs.declared.Timing.{Timing}
 use Rattle.config.proofs.Outcomes.{refused-value, same-number, refused-by}
 use Rattle.config.proofs.Accepted.{accepted, config-19}
-use Rattle.command.specs.Writing.{requestFits}
+use Rattle.writing.specs.Writing.{requestFits}
 use Rattle.command.specs.declared.operation.Request.{Request}
 use Rattle.model.specs.Laid as laid
 use Rattle.controller.specs.States.{fresh}

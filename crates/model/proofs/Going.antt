@@ -12,8 +12,8 @@ use lib.ListN.{length, length-append}
 use lib.Dec.{eqb}
 use Rattle.config.specs.declared.Timing.{Timing}
 use Rattle.config.proofs.Bounds.{both}
-use Rattle.command.specs.Reading.{opens, rda, lal}
-use Rattle.command.specs.Writing.{pairOf, requestFits, operationFits}
+use Rattle.command.specs.Pairs.{opens, rda, lal}
+use Rattle.writing.specs.Writing.{pairOf, requestFits, operationFits}
 use Rattle.command.specs.declared.operation.Request.{Request}
 use Rattle.command.specs.declared.operation.Operation.{Operation}
 use Rattle.command.specs.declared.operation.Operation.the-variants.{Access, Regular, Extended, Refresh}

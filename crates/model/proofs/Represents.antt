@@ -13,7 +13,7 @@ use Rattle.config.specs.Outcome.{value}
 use Rattle.config.specs.Configuration.{timingOf}
 use Rattle.config.specs.declared.Config.{Config}
 use Rattle.config.specs.declared.Timing.{Timing}
-use Rattle.command.specs.Writing.{pairOf, requestFits, operationFits}
+use Rattle.writing.specs.Writing.{pairOf, requestFits, operationFits}
 use Rattle.command.specs.declared.operation.Request.{Request}
 use Rattle.command.specs.declared.operation.Operation.{Operation}
 use Rattle.command.specs.declared.operation.Operation.the-variants.{Access, Regular as RegularMode, Extended as ExtendedMode, Refresh as Refreshing}

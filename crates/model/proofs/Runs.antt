@@ -12,7 +12,7 @@ use Rattle.config.specs.Outcome.{value}
 use Rattle.config.specs.Configuration.{timingOf}
 use Rattle.config.specs.declared.Config.{Config}
 use Rattle.config.specs.declared.Timing.{Timing}
-use Rattle.command.specs.Writing.{requestFits}
+use Rattle.writing.specs.Writing.{requestFits}
 use Rattle.command.specs.declared.operation.Request.{Request}
 use Rattle.command.specs.declared.operation.Operation.{Operation}
 use Rattle.rules.specs.History.{Past, nothing, extend, pastFrom}

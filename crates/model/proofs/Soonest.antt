@@ -9,7 +9,7 @@ use native.Mathlib.Omega.{arith}
 use borrow.Author.Tests.{leb-true, leb-false}
 use lib.Dec.{leb}
 use Rattle.config.specs.declared.Timing.{Timing}
-use Rattle.command.specs.Writing.{pairOf}
+use Rattle.writing.specs.Writing.{pairOf}
 use Rattle.command.specs.declared.operation.Request.{Request}
 use Rattle.command.specs.declared.operation.Operation.{Operation}
 use Rattle.command.specs.declared.operation.Operation.the-variants.{Access, Regular, Extended, Refresh}

@@ -7,7 +7,8 @@ use borrow.Author.Tests.{le-ltb}
 use lib.ListN.{getD}
 use Rattle.config.specs.declared.Timing.{Timing}
 use Rattle.roundtrip.proofs.SoundPair.{sound-tests}
-use Rattle.command.specs.Reading.{rda, lal, soundPair}
+use Rattle.command.specs.Pairs.{rda, lal}
+use Rattle.reading.specs.Reading.{soundPair}
 use Rattle.rules.specs.Stamps.{near, overdue, bankStamp, notReady, wordBreach}
 use Rattle.rules.specs.declared.stamps.Timestamps.{Timestamps}
 

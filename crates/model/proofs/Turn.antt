@@ -10,8 +10,9 @@ use borrow.Author.Tests.{leb-true, leb-false}
 use lib.Dec.{leb}
 use Rattle.config.specs.declared.Timing.{Timing}
 use Rattle.command.specs.Pins.{high}
-use Rattle.command.specs.Reading.{rda, lal, modeBy, accessOf, operationOf}
-use Rattle.command.specs.Writing.{pairOf, operationFits}
+use Rattle.command.specs.Pairs.{rda, lal}
+use Rattle.reading.specs.Reading.{modeBy, accessOf, operationOf}
+use Rattle.writing.specs.Writing.{pairOf, operationFits}
 use Rattle.command.specs.declared.operation.Request.{Request}
 use Rattle.command.specs.declared.operation.Operation.{Operation}
 use Rattle.command.specs.declared.operation.Operation.the-variants.{Access, Refresh}

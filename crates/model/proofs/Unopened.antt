@@ -10,7 +10,7 @@ use borrow.Author.Tests.{leb-true, leb-false}
 use lib.ListN.{length}
 use lib.Dec.{leb}
 use Rattle.config.specs.declared.Timing.{Timing}
-use Rattle.command.specs.Writing.{requestFits}
+use Rattle.writing.specs.Writing.{requestFits}
 use Rattle.command.specs.declared.operation.Request.{Request}
 use Rattle.rules.specs.History.{ClosedPair}
 use Rattle.rules.specs.Rules.{wasRead, wasWrite, wasRefresh}

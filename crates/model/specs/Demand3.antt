@@ -9,7 +9,7 @@ use Rattle.config.specs.Outcome.{value, refused, require}
 use Rattle.config.specs.Configuration.{timingOf}
 use Rattle.config.specs.declared.Config.{Config}
 use Rattle.config.specs.declared.Timing.{Timing}
-use Rattle.command.specs.Writing.{requestFits}
+use Rattle.writing.specs.Writing.{requestFits}
 use Rattle.command.specs.declared.operation.Request.{Request}
 use Rattle.rules.specs.Verdict.{accepted, judge}
 use Rattle.model.specs.Runs.{Call, Accepted, Run, run, prescribed, pairsOf, requestsOf, firstWords, latestStart}

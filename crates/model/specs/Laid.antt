@@ -7,7 +7,7 @@ use mathlib.Core.Option.{Option, none, some}
 use lib.ListN.{length, getD}
 use lib.Dec.{eqb, leb}
 use Rattle.config.specs.declared.Timing.{Timing}
-use Rattle.command.specs.Writing.{pairOf}
+use Rattle.writing.specs.Writing.{pairOf}
 use Rattle.command.specs.declared.operation.Request.{Request}
 use Rattle.command.specs.declared.operation.Pair.{Pair}
 use Rattle.command.specs.declared.operation.Operation.{Operation}

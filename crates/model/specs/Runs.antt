@@ -8,8 +8,8 @@ use lib.Dec.{ltb}
 use Rattle.config.specs.Outcome.{Outcome, value, refused}
 use Rattle.config.specs.declared.Config.{Config}
 use Rattle.config.specs.declared.Timing.{Timing}
-use Rattle.command.specs.Reading.{operationOf}
-use Rattle.command.specs.Writing.{requestFits}
+use Rattle.reading.specs.Reading.{operationOf}
+use Rattle.writing.specs.Writing.{requestFits}
 use Rattle.command.specs.declared.operation.Request.{Request}
 use Rattle.command.specs.declared.operation.Operation.{Operation}
 use Rattle.command.specs.declared.operation.Operation.the-variants.{Access, Regular, Extended, Refresh}

@@ -7,7 +7,7 @@ use lib.Dec.{eqb}
 use Rattle.config.specs.Outcome.{Outcome, value, refused}
 use Rattle.config.specs.Configuration.{institute, derived, timingOf}
 use Rattle.config.specs.declared.Config.{Config}
-use Rattle.command.specs.Writing.{writePair}
+use Rattle.writing.specs.Writing.{writePair}
 use Rattle.command.specs.declared.operation.Operation.the-variants.{Access}
 use Rattle.command.specs.declared.operation.Pair.{Pair}
 use Rattle.rules.specs.Verdict.{Judgement, accepted, breach, checkOf}

@@ -9,7 +9,7 @@ use Rattle.config.specs.Numbers.{refusalNumber}
 use Rattle.config.specs.Configuration.{timingOf}
 use Rattle.config.specs.declared.Config.{Config}
 use Rattle.config.specs.declared.Timing.{Timing}
-use Rattle.command.specs.Reading.{opens}
+use Rattle.command.specs.Pairs.{opens}
 use Rattle.rules.specs.Verdict.{Judgement, accepted, breach}
 use Rattle.rules.specs.Stamps.{wordBreach, nextStamps, nextFirst, never}
 use Rattle.rules.specs.declared.stamps.Timestamps.{Timestamps}

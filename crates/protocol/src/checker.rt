@@ -1,5 +1,6 @@
 // The checker (the paper's examiner): a state that takes one word after the other.
 use command::pins::CS;
+use command::pins::high;
 use config::Config;
 use config::Refusal;
 use config::Timing;
@@ -79,7 +80,7 @@ pub fn clock_fits(clock: u32, first: u32, stamps: Timestamps) -> bool
     ensures { λ r. ⌜ r ≡ clockFits clock first stamps ⌝ }
 {
     let remembered = stamps_before(clock, stamps);
-    (clock <= LIMIT) & remembered & !((clock == 0) & !(first / CS % 2 == 1))
+    (clock <= LIMIT) & remembered & !((clock == 0) & !high(first, CS))
 }
 
 impl Checker {

@@ -13,7 +13,8 @@ use Rattle.config.specs.Configuration.{derived}
 use Rattle.config.specs.declared.Config.{Config}
 use Rattle.config.specs.declared.Timing.{Timing}
 use Rattle.command.specs.Pins.{pins, put, high, strayBit}
-use Rattle.command.specs.Reading.{rda, lal, isMode, isWrite, registerFits, modeFits, reserved, modeWrong, laneReserved, soundPair}
+use Rattle.command.specs.Pairs.{rda, lal, isMode, isWrite}
+use Rattle.reading.specs.Reading.{registerFits, modeFits, reserved, modeWrong, laneReserved, soundPair}
 use Rattle.roundtrip.specs.Ignored.{Pins, only, firstPins, secondPins}
 
 -- a word of any numbers on these pins, of which `only` is the one that has them from a word

@@ -8,8 +8,8 @@ use borrow.Author.Tests.{eqb-true}
 use lib.Dec.{eqb}
 use Rattle.config.specs.declared.Timing.{Timing}
 use Rattle.config.proofs.Bounds.{both, either}
-use Rattle.command.specs.Reading.{laneOf}
-use Rattle.command.specs.Writing.{laneFits}
+use Rattle.reading.specs.Reading.{laneOf}
+use Rattle.writing.specs.Writing.{laneFits}
 
 -- the levels that write n words
 abbrev pub vw0 : ℕ → Bool

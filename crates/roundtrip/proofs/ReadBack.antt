@@ -13,8 +13,9 @@ use Rattle.config.specs.declared.Config.{Config}
 use Rattle.config.specs.declared.Timing.{Timing}
 use Rattle.config.proofs.Bounds.{both}
 use Rattle.command.specs.Pins.{pins, high, put, drive, level}
-use Rattle.command.specs.Reading.{rda, lal, columnOf, laneOf, accessOf, registerFits, modeFits, modeBy, modeWrong, laneReserved, soundPair, operationOf}
-use Rattle.command.specs.Writing.{lanesFit, operationFits, laneAt, pairOf}
+use Rattle.command.specs.Pairs.{rda, lal}
+use Rattle.reading.specs.Reading.{columnOf, laneOf, accessOf, registerFits, modeFits, modeBy, modeWrong, laneReserved, soundPair, operationOf}
+use Rattle.writing.specs.Writing.{lanesFit, operationFits, laneAt, pairOf}
 use Rattle.roundtrip.specs.Ignored.{Pins, only, always, firstPins, columnWidth, lanePins, writePins, secondPins, ignoredLow}
 use Rattle.command.specs.declared.operation.Operation.{Operation}
 use Rattle.command.specs.declared.operation.Operation.the-variants.{Access, Regular, Extended, Refresh}

@@ -10,8 +10,8 @@ use Rattle.config.proofs.Outcomes.{require-value}
 use Rattle.config.proofs.Bounds.{cl-bounds, bl-cases}
 use Rattle.config.proofs.Accepted.{Accepted, accepted, behind, timing-is}
 use Rattle.command.specs.Pins.{strayBit}
-use Rattle.command.specs.Reading.{soundPair, operationOf, readPair}
-use Rattle.command.specs.Writing.{operationFits, pairOf, writePair}
+use Rattle.reading.specs.Reading.{soundPair, operationOf, readPair}
+use Rattle.writing.specs.Writing.{operationFits, pairOf, writePair}
 use Rattle.roundtrip.specs.Ignored.{ignoredLow}
 use Rattle.roundtrip.specs.RoundTrip.{RoundTrip}
 use Rattle.command.specs.declared.operation.Operation.{Operation}

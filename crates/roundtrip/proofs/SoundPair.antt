@@ -6,7 +6,7 @@ use borrow.Author.Tests.{not-true}
 use Rattle.config.specs.declared.Timing.{Timing}
 use Rattle.config.proofs.Bounds.{both}
 use Rattle.command.specs.Pins.{high, strayBit}
-use Rattle.command.specs.Reading.{modeWrong, laneReserved, soundPair}
+use Rattle.reading.specs.Reading.{modeWrong, laneReserved, soundPair}
 
 pub record SoundTests (t : Timing) (first second : ℕ) : Type 0 where
   pub cs : high 18 first ≡ false

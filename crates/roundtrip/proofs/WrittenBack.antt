@@ -10,8 +10,8 @@ use lib.Dec.{eqb, leb, lit≤}
 use Rattle.config.specs.declared.Timing.{Timing}
 use Rattle.config.proofs.Bounds.{both, either}
 use Rattle.command.specs.Pins.{pins, high, strayBit}
-use Rattle.command.specs.Reading.{laneOf, columnOf, reserved, registerFits, modeBy, soundPair, operationOf}
-use Rattle.command.specs.Writing.{laneFits, lanesFit, requestFits, operationFits, accessPair, pairOf}
+use Rattle.reading.specs.Reading.{laneOf, columnOf, reserved, registerFits, modeBy, soundPair, operationOf}
+use Rattle.writing.specs.Writing.{laneFits, lanesFit, requestFits, operationFits, accessPair, pairOf}
 use Rattle.command.specs.declared.operation.Request.{Request}
 use Rattle.command.specs.declared.operation.Operation.{Operation}
 use Rattle.command.specs.declared.operation.Operation.the-variants.{Access, Regular, Extended, Refresh}

@@ -5,7 +5,7 @@ use mathlib.Core.List.{List, [], _∷_, _++_}
 use lib.Dec.{eqb}
 use Rattle.config.specs.declared.Config.{Config}
 use Rattle.command.specs.Pins.{pins, put}
-use Rattle.command.specs.Reading.{rda, lal}
+use Rattle.command.specs.Pairs.{rda, lal}
 use Rattle.command.specs.declared.operation.Pair.{Pair}
 
 -- pins in a row: the first, and how many

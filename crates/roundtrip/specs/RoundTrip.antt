@@ -4,8 +4,8 @@ use mathlib.Core.Bool.{false, _||_}
 use Rattle.config.specs.Outcome.{value}
 use Rattle.config.specs.declared.Config.{Config}
 use Rattle.command.specs.Pins.{strayBit}
-use Rattle.command.specs.Reading.{readPair}
-use Rattle.command.specs.Writing.{writePair}
+use Rattle.reading.specs.Reading.{readPair}
+use Rattle.writing.specs.Writing.{writePair}
 use Rattle.roundtrip.specs.Ignored.{ignoredLow}
 use Rattle.command.specs.declared.operation.Operation.{Operation}
 use Rattle.command.specs.declared.operation.Pair.{Pair}

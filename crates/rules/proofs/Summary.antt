@@ -8,7 +8,7 @@ use native.Mathlib.Nat.{mod-lt}
 use lib.ListN.{getD, set}
 use lib.Dec.{eqb, lit<}
 use Rattle.command.specs.Pins.{high}
-use Rattle.command.specs.Reading.{rda, lal}
+use Rattle.command.specs.Pairs.{rda, lal}
 use Rattle.rules.specs.History.{ClosedPair}
 use Rattle.rules.specs.Rules.{wasRead, wasWrite, wasAccess, wasMode, wasRefresh, wasRegular, wasExtended, bankOf, closings, oldest}
 use Rattle.rules.specs.Stamps.{withAccess, withMode, withRefresh, remembered}

@@ -7,7 +7,7 @@ use native.Mathlib.Omega.{arith}
 use lib.ListN.{getD}
 use lib.Dec.{eqb, ltb}
 use Rattle.config.specs.declared.Timing.{Timing}
-use Rattle.command.specs.Reading.{rda, lal, isRefresh}
+use Rattle.command.specs.Pairs.{rda, lal, isRefresh}
 use Rattle.rules.specs.History.{ClosedPair, Past}
 use Rattle.rules.specs.Rules.{wasRead, wasWrite, wasAccess, wasMode, wasRefresh, wasRegular, wasExtended, bankOf, earlier, closings, oldest, rule3, rule6, rule7, rule8, rule9, rule10, rule11, rule12}
 use Rattle.rules.specs.Stamps.{near, overdue, bankStamp, notReady, tooClose, busy}

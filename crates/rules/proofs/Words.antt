@@ -13,7 +13,7 @@ use lib.Seq.{drop-cons}
 use lib.Dec.{eqb}
 use Rattle.config.specs.declared.Timing.{Timing}
 use Rattle.command.specs.Pins.{high, strayBit}
-use Rattle.command.specs.Reading.{opens}
+use Rattle.command.specs.Pairs.{opens}
 use Rattle.rules.specs.History.{ClosedPair, Past, extend, extendBy, pastFrom}
 use Rattle.rules.specs.Rules.{lowest, breachAt}
 use Rattle.rules.specs.Verdict.{Judgement, accepted, breach, lead, judgeFrom, judge}

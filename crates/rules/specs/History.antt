@@ -3,7 +3,7 @@ use Prim.Native.Nat.{ℕ, _+_, _-_}
 use mathlib.Core.Bool.{cond}
 use mathlib.Core.List.{List, [], _∷_}
 use mathlib.Core.Option.{Option, none, some}
-use Rattle.command.specs.Reading.{opens}
+use Rattle.command.specs.Pairs.{opens}
 
 -- "A pair at t has words at t and t + 1."
 pub record ClosedPair : Type 0 where

@@ -8,7 +8,8 @@ use lib.ListN.{length, getD}
 use lib.Dec.{eqb, leb, ltb}
 use Rattle.config.specs.declared.Timing.{Timing}
 use Rattle.command.specs.Pins.{pins, high, strayBit}
-use Rattle.command.specs.Reading.{lal, isRead, isWrite, isMode, isRefresh, modeWrong, laneReserved}
+use Rattle.command.specs.Pairs.{lal, isRead, isWrite, isMode, isRefresh}
+use Rattle.reading.specs.Reading.{modeWrong, laneReserved}
 use Rattle.rules.specs.History.{ClosedPair, Past}
 
 -- what a closed pair is

@@ -7,7 +7,8 @@ use lib.ListN.{getD, set}
 use lib.Dec.{eqb, ltb}
 use Rattle.config.specs.declared.Timing.{Timing}
 use Rattle.command.specs.Pins.{high, strayBit}
-use Rattle.command.specs.Reading.{opens, rda, lal, isRefresh, modeWrong, laneReserved}
+use Rattle.command.specs.Pairs.{opens, rda, lal, isRefresh}
+use Rattle.reading.specs.Reading.{modeWrong, laneReserved}
 use Rattle.rules.specs.Rules.{bankOf, lowest}
 use Rattle.rules.specs.declared.stamps.Timestamps.{Timestamps}
 

@@ -2,8 +2,6 @@
 mod rules;
 mod stamps;
 
-pub use rules::closing_breach;
-pub use rules::early_breach;
 pub use rules::word_breach;
 pub use stamps::DESL;
 pub use stamps::Timestamps;

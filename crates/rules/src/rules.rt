@@ -4,35 +4,22 @@ use command::pins::BA0;
 use command::pins::CS;
 use command::pins::FN;
 use command::pins::PD;
+use command::pins::high;
 use config::Timing;
 use config::choose;
 ghost use mathlib.Core.Path.{_≡_};
 ghost use mathlib.Core.Bool.{true, false};
-ghost use Rattle.command.specs.Reading.{lal};
+ghost use Rattle.command.specs.Pairs.{lal};
 ghost use mathlib.Core.List.{[], _∷_};
 ghost use Prim.Native.Nat.{_+_};
 ghost use Rattle.rules.specs.Rules.{lowest};
 ghost use Rattle.rules.specs.Stamps.{near, earlyBreach, notReady, tooClose, busy, closingBreach, wordBreach};
 
-// An event at this timestamp, if there was one, is less than so many clocks ago.
-fn near(clock: u32, stamp: u32, limit: u32) -> bool
-    ensures { λ r. ⌜ r ≡ near clock stamp limit ⌝ }
+// An event at this timestamp, if there was one, is less than so many clocks, and so many more, ago.
+fn near(clock: u32, stamp: u32, limit: u32, more: u32) -> bool
+    ensures { λ r. ⌜ r ≡ near clock stamp (limit + more) ⌝ }
 {
-    !(stamp == 0) & ((clock as u64) < stamp as u64 + limit as u64)
-}
-
-// The same, counted from a LAL word: one clock more.
-fn near_lal(clock: u32, stamp: u32, limit: u32) -> bool
-    ensures { λ r. ⌜ r ≡ near clock stamp (limit + 1) ⌝ }
-{
-    !(stamp == 0) & ((clock as u64) < stamp as u64 + (limit as u64 + 1))
-}
-
-// The same, up to the end of the data behind a LAL word.
-fn near_data(clock: u32, stamp: u32, latency: u32, length: u32) -> bool
-    ensures { λ r. ⌜ r ≡ near clock stamp (latency + length + 1) ⌝ }
-{
-    !(stamp == 0) & ((clock as u64) < stamp as u64 + (latency as u64 + length as u64 + 1))
+    !(stamp == 0) & ((clock as u64) < stamp as u64 + (limit as u64 + more as u64))
 }
 
 // The number of the first of rules 1 to 3 whose test holds, or 0.
@@ -49,11 +36,11 @@ fn lowest_early(stray: bool, low: bool, overdue: bool) -> u32
 }
 
 // Rules 1 to 3 at a word, by the last REF word.
-pub fn early_breach(refi: u32, last: u32, clock: u32, word: u32) -> u32
+fn early_breach(refi: u32, last: u32, clock: u32, word: u32) -> u32
     ensures { λ r. ⌜ r ≡ earlyBreach refi last clock word ⌝ }
 {
     let overdue = !(last == 0) & (last as u64 + (refi as u64) < clock as u64);
-    lowest_early(0x100000 <= word, !(word / PD % 2 == 1), overdue)
+    lowest_early(0x100000 <= word, !high(word, PD), overdue)
 }
 
 // Rule 6, for a read or write.
@@ -67,10 +54,11 @@ fn unready(extended: u32, regular: u32, second_last: u32, clock: u32) -> bool
 fn too_close(rda: bool, timing: Timing, read: u32, write: u32, clock: u32) -> bool
     ensures { λ r. ⌜ r ≡ tooClose rda true timing read write clock ⌝ }
 {
-    let after_read = near(clock, read, timing.rbd);
-    let after_write = near(clock, write, timing.rbd);
-    let read_to_write = near_lal(clock, read, timing.rwd);
-    let write_to_read = near_lal(clock, write, timing.wrd);
+    let rbd = timing.rbd();
+    let after_read = near(clock, read, rbd, 0);
+    let after_write = near(clock, write, rbd, 0);
+    let read_to_write = near(clock, read, timing.rwd(), 1);
+    let write_to_read = near(clock, write, timing.wrd(), 1);
     (after_read | after_write) | !rda & read_to_write | rda & write_to_read
 }
 
@@ -78,11 +66,12 @@ fn too_close(rda: bool, timing: Timing, read: u32, write: u32, clock: u32) -> bo
 fn busy(rda: bool, timing: Timing, read: u32, write: u32, clock: u32) -> bool
     ensures { λ r. ⌜ r ≡ busy rda false timing read write clock ⌝ }
 {
-    let half = timing.bl / 2;
-    let after_read = near(clock, read, timing.rc);
-    let after_write = near(clock, write, timing.rc);
-    let read_data = near_data(clock, read, timing.cl, half);
-    let write_data = near_data(clock, write, timing.wl, half);
+    let rc = timing.rc();
+    let half = timing.bl() / 2;
+    let after_read = near(clock, read, rc, 0);
+    let after_write = near(clock, write, rc, 0);
+    let read_data = near(clock, read, timing.cl(), half + 1);
+    let write_data = near(clock, write, timing.wl(), half + 1);
     (after_read | after_write) | rda & read_data | rda & write_data
 }
 
@@ -91,16 +80,16 @@ fn access_breach(timing: Timing, stamps: Timestamps, clock: u32, first: u32, sec
     requires { ⌜ lal second ≡ true ⌝ }
     ensures { λ r. ⌜ r ≡ closingBreach timing stamps clock first second ⌝ }
 {
-    let rda = first / FN % 2 == 1;
+    let rda = high(first, FN);
     let banks = stamps.banks;
     let refs = stamps.refs;
     let bank = (first / BA0 % 8) as usize;
-    let reserved = command::lane_reserved(timing, first, second);
+    let reserved = reading::lane_reserved(timing, first, second);
     let unready = unready(stamps.extended, stamps.regular, refs[1], clock);
-    let same_bank = near(clock, banks[bank], timing.rc);
+    let same_bank = near(clock, banks[bank], timing.rc(), 0);
     let too_close = too_close(rda, timing, stamps.read, stamps.write, clock);
-    let after_mode = near(clock, stamps.mode, timing.rsc);
-    let after_refresh = near(clock, refs[0], timing.refc);
+    let after_mode = near(clock, stamps.mode, timing.rsc(), 0);
+    let after_refresh = near(clock, refs[0], timing.refc(), 0);
     // The lowest number from 9 on, and from 7 on.
     let from_9 = choose(after_mode, 9, choose(after_refresh, 10, 0));
     let from_7 = choose(same_bank, 7, choose(too_close, 8, from_9));
@@ -118,29 +107,23 @@ fn mode_or_refresh_breach(
     requires { ⌜ lal second ≡ false ⌝ }
     ensures { λ r. ⌜ r ≡ closingBreach timing stamps clock first second ⌝ }
 {
-    let rda = first / FN % 2 == 1;
+    let rda = high(first, FN);
     let refs = stamps.refs;
-    let wrong = command::mode_wrong(timing, first, second);
-    let after_mode = near(clock, stamps.mode, timing.rsc);
-    let after_refresh = near(clock, refs[0], timing.refc);
+    let wrong = reading::mode_wrong(timing, first, second);
+    let after_mode = near(clock, stamps.mode, timing.rsc(), 0);
+    let after_refresh = near(clock, refs[0], timing.refc(), 0);
     let busy = busy(rda, timing, stamps.read, stamps.write, clock);
-    let in_window = near(clock, refs[7], timing.window);
+    let in_window = near(clock, refs[7], timing.window(), 0);
     let from_11 = choose(busy, 11, choose(!rda & in_window, 12, 0));
     let from_9 = choose(after_mode, 9, choose(after_refresh, 10, from_11));
     choose(wrong, 4, from_9)
 }
 
 // Rules 4 to 12 at the closing word of a pair.
-pub fn closing_breach(
-    timing: Timing,
-    stamps: Timestamps,
-    clock: u32,
-    first: u32,
-    second: u32,
-) -> u32
+fn closing_breach(timing: Timing, stamps: Timestamps, clock: u32, first: u32, second: u32) -> u32
     ensures { λ r. ⌜ r ≡ closingBreach timing stamps clock first second ⌝ }
 {
-    let lal = second / CS % 2 == 1;
+    let lal = high(second, CS);
     if lal {
         access_breach(timing, stamps, clock, first, second)
     } else {
@@ -148,16 +131,16 @@ pub fn closing_breach(
     }
 }
 
-// The lowest breach number at a word, or 0, where `first` is the word of the open pair, or one with CS high where none is open.
+// The lowest breach number at a word, or 0, by any timestamps. `first` is the word of the open pair, or one with CS high where none is open.
 pub fn word_breach(timing: Timing, stamps: Timestamps, clock: u32, first: u32, word: u32) -> u32
     ensures { λ r. ⌜ r ≡ wordBreach timing stamps clock first word ⌝ }
 {
     let refs = stamps.refs;
-    let early = early_breach(timing.refi, refs[0], clock, word);
+    let early = early_breach(timing.refi(), refs[0], clock, word);
     if early != 0 {
         return early;
     }
-    let opened = !(first / CS % 2 == 1);
+    let opened = !high(first, CS);
     if opened {
         closing_breach(timing, stamps, clock, first, word)
     } else {

@@ -2,6 +2,7 @@
 use command::pins::BA0;
 use command::pins::CS;
 use command::pins::FN;
+use command::pins::high;
 use config::choose;
 ghost use mathlib.Core.Path.{_≡_};
 ghost use Prim.Native.Nat.{_<_};
@@ -97,13 +98,13 @@ impl Timestamps {
     pub fn remembered(self, clock: u32, first: u32, second: u32) -> Timestamps
         ensures { λ r. ⌜ r ≡ remembered self clock first second ⌝ }
     {
-        let rda = first / FN % 2 == 1;
-        let lal = second / CS % 2 == 1;
+        let rda = high(first, FN);
+        let lal = high(second, CS);
         if lal {
             return self.with_access(clock, rda, (first / BA0 % 8) as usize);
         }
         if rda {
-            self.with_mode(clock, second / BA0 % 2 == 1)
+            self.with_mode(clock, high(second, BA0))
         } else {
             self.with_refresh(clock)
         }
@@ -113,7 +114,7 @@ impl Timestamps {
     pub fn after(self, clock: u32, first: u32, word: u32) -> Timestamps
         ensures { λ r. ⌜ r ≡ nextStamps self clock first word ⌝ }
     {
-        let opened = !(first / CS % 2 == 1);
+        let opened = !high(first, CS);
         if opened {
             self.remembered(clock, first, word)
         } else {
@@ -126,5 +127,5 @@ impl Timestamps {
 pub fn next_first(first: u32, word: u32) -> u32
     ensures { λ r. ⌜ r ≡ nextFirst first word ⌝ }
 {
-    choose((first / CS % 2 == 1) & !(word / CS % 2 == 1), word, DESL)
+    choose(high(first, CS) & !high(word, CS), word, DESL)
 }

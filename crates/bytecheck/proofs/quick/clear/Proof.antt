@@ -5,7 +5,7 @@ use mathlib.Core.Bool.{Bool, true, false, cond, false≢true}
 use native.Mathlib.Omega.{arith}
 use borrow.Author.Tests.{not-true, not-false}
 use Rattle.config.specs.declared.Timing.{Timing}
-use Rattle.command.specs.Reading.{rda, lal}
+use Rattle.command.specs.Pairs.{rda, lal}
 use Rattle.rules.specs.Stamps.{bankStamp, tooClose}
 use Rattle.rules.proofs.ByKind.{at-lal}
 use Rattle.bytecheck.proofs.Far.{far}

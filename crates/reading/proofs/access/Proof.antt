@@ -1,0 +1,57 @@
+-- Each field is what its leaf gives. Assumes nothing.
+use borrow.Author.Needs.{needs}
+use Rattle.reading.proofs.access.Statement.{statement}
+use Rattle.reading.proofs.access.Tie as tie
+
+organisation-requires : tie.Need-organisation-requires
+organisation-requires c κs = search needs
+
+bl-requires : tie.Need-bl-requires
+bl-requires c κs = search needs
+
+high-requires : tie.Need-high-requires
+high-requires c κs = search needs
+
+high-requires-2 : tie.Need-high-requires-2
+high-requires-2 c κs = search needs
+
+lane-requires : tie.Need-lane-requires
+lane-requires c κs = search needs
+
+high-requires-3 : tie.Need-high-requires-3
+high-requires-3 c κs = search needs
+
+high-requires-4 : tie.Need-high-requires-4
+high-requires-4 c κs = search needs
+
+lane-requires-2 : tie.Need-lane-requires-2
+lane-requires-2 c κs = search needs
+
+column-requires : tie.Need-column-requires
+column-requires c κs = search needs
+
+kept-requires : tie.Need-kept-requires
+kept-requires c κs = search needs
+
+kept-requires-2 : tie.Need-kept-requires-2
+kept-requires-2 c κs = search needs
+
+returns : tie.Need-returns
+returns c = cc
+
+pub access-spec : {M : Type 1} → statement M
+access-spec =
+    tie.close
+    (tie.spec
+    organisation-requires
+    bl-requires
+    high-requires
+    high-requires-2
+    lane-requires
+    high-requires-3
+    high-requires-4
+    lane-requires-2
+    column-requires
+    kept-requires
+    kept-requires-2
+    returns)

@@ -1,0 +1,12 @@
+-- The test picks the case. Assumes nothing.
+use Rattle.reading.proofs.column.Statement.{statement}
+use Rattle.reading.proofs.column.Tie as tie
+
+returns : tie.Need-returns
+returns c = cc
+
+returns-2 : tie.Need-returns-2
+returns-2 c = cc
+
+pub column-spec : {M : Type 1} → statement M
+column-spec = tie.close (tie.spec returns returns-2)

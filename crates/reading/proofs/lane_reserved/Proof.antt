@@ -1,0 +1,45 @@
+-- Each pin is its leaf's. Assumes nothing.
+use borrow.Author.Needs.{needs}
+use Rattle.reading.proofs.lane_reserved.Statement.{statement}
+use Rattle.reading.proofs.lane_reserved.Tie as tie
+
+high-requires : tie.Need-high-requires
+high-requires c κs = search needs
+
+high-requires-2 : tie.Need-high-requires-2
+high-requires-2 c κs = search needs
+
+high-requires-3 : tie.Need-high-requires-3
+high-requires-3 c κs = search needs
+
+high-requires-4 : tie.Need-high-requires-4
+high-requires-4 c κs = search needs
+
+high-requires-5 : tie.Need-high-requires-5
+high-requires-5 c κs = search needs
+
+high-requires-6 : tie.Need-high-requires-6
+high-requires-6 c κs = search needs
+
+bl-requires : tie.Need-bl-requires
+bl-requires c κs = search needs
+
+organisation-requires : tie.Need-organisation-requires
+organisation-requires c κs = search needs
+
+returns : tie.Need-returns
+returns c = cc
+
+pub lane-reserved-spec : {M : Type 1} → statement M
+lane-reserved-spec =
+    tie.close
+    (tie.spec
+    high-requires
+    high-requires-2
+    high-requires-3
+    high-requires-4
+    high-requires-5
+    high-requires-6
+    bl-requires
+    organisation-requires
+    returns)

@@ -1,0 +1,16 @@
+-- The test picks the case. Assumes nothing.
+use borrow.Author.Needs.{needs}
+use Rattle.reading.proofs.mode.Statement.{statement}
+use Rattle.reading.proofs.mode.Tie as tie
+
+high-requires : tie.Need-high-requires
+high-requires c κs = search needs
+
+returns : tie.Need-returns
+returns c = cc
+
+returns-2 : tie.Need-returns-2
+returns-2 c = cc
+
+pub mode-spec : {M : Type 1} → statement M
+mode-spec = tie.close (tie.spec high-requires returns returns-2)

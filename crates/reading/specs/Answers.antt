@@ -1,0 +1,10 @@
+-- What an answer of this crate is in the paper's terms.
+use Rattle.config.specs.Outcome.{Outcome, value, refused}
+use Rattle.config.specs.Numbers.{refusalNumber}
+use Rattle.command.specs.declared.operation.Operation.{Operation}
+use Rattle.reading.specs.declared.ReadAnswer.{ReadAnswer}
+use Rattle.reading.specs.declared.ReadAnswer.the-variants.{Read, Refused}
+
+abbrev pub readOutcome : ReadAnswer → Outcome Operation
+readOutcome (Read o) = value o
+readOutcome (Refused r) = refused (refusalNumber r)

@@ -1,0 +1,19 @@
+-- Each test is the definition's. Assumes nothing.
+use borrow.Author.Needs.{needs}
+use Rattle.rules.proofs.rules.early_breach.Statement.{statement}
+use Rattle.rules.proofs.rules.early_breach.Tie as tie
+
+add-overdue : tie.Need-add-overdue
+add-overdue c = search needs
+
+high-requires : tie.Need-high-requires
+high-requires c κs = search needs
+
+lowest-early-requires : tie.Need-lowest-early-requires
+lowest-early-requires c κs = search needs
+
+returns : tie.Need-returns
+returns c = cc
+
+pub early-breach-spec : {M : Type 1} → statement M
+early-breach-spec = tie.close (tie.spec add-overdue high-requires lowest-early-requires returns)
