@@ -40,15 +40,15 @@ fn counted(counts: CommandCounts, words: usize, first: u32, word: u32) -> Comman
     requires { ⌜ (words < 65536) × Below words counts ⌝ }
     ensures { λ r. ⌜ (r ≡ counted counts first word) × Below (words + 1) r ⌝ }
 {
-    let opened = !high(first, CS);
+    let idle = high(first, CS);
     let rda = high(first, FN);
     let lal = high(word, CS);
     CommandCounts {
-        reads: counts.reads + bit(opened & (rda & lal)),
-        writes: counts.writes + bit(opened & (!rda & lal)),
-        modes: counts.modes + bit(opened & (rda & !lal)),
-        refreshes: counts.refreshes + bit(opened & (!rda & !lal)),
-        desls: counts.desls + bit(high(first, CS) & lal),
+        reads: counts.reads + bit(!idle & (rda & lal)),
+        writes: counts.writes + bit(!idle & (!rda & lal)),
+        modes: counts.modes + bit(!idle & (rda & !lal)),
+        refreshes: counts.refreshes + bit(!idle & (!rda & !lal)),
+        desls: counts.desls + bit(idle & lal),
     }
 }
 

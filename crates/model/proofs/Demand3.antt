@@ -26,11 +26,11 @@ use Rattle.model.proofs.Figures.{Figures, figures}
 use Rattle.model.proofs.Fulfilled.{Met, met-at}
 use Rattle.model.proofs.Going.{firstsOf, start-goes, none-passed}
 use Rattle.model.proofs.Represents.{held-is, offer-is, tick-represents, tick-ends}
-use Rattle.model.proofs.Runs.{closingBound, Kept, all-kept}
+use Rattle.model.proofs.Runs.{closingBound, AsPrescribed, all-prescribed}
 
 module _ (c : Config) (t : Timing) (is : timingOf c ≡ value t) (f : Figures t) where
-  start-kept : Kept c t is f (record { words = []; accepted = []; controller = fresh c }) (record { words = []; course = laid.start })
-  start-kept =
+  start-prescribed : AsPrescribed c t is f (record { words = []; accepted = []; controller = fresh c }) (record { words = []; course = laid.start })
+  start-prescribed =
       record {
         words = refl;
         past = refl;
@@ -44,7 +44,7 @@ module _ (c : Config) (t : Timing) (is : timingOf c ≡ value t) (f : Figures t)
         met = refl;
       }
 
-  module _ (r : Run) (k : Prescribed) (h : Kept c t is f r k) where
+  module _ (r : Run) (k : Prescribed) (h : AsPrescribed c t is f r k) where
     is-held : held (r .controller) ≡ k .course .waiting
     is-held = held-is c t is f (r .controller) (k .course) (h .represents)
 
@@ -97,8 +97,8 @@ module _ (c : Config) (t : Timing) (is : timingOf c ≡ value t) (f : Figures t)
             let over = ltb-false (length (k .words)) 16777216 e in
             ap (λ y. y .outcome) (tick-ends c t is f (r .controller) (k .course) (h .bounds) (h .represents) (h .going) (omega arith))
 
-  from-kept : (calls : List Call) (r : Run) → Kept c t is f r (prescribed t calls) → Holds t calls r
-  from-kept calls r h =
+  from-prescribed : (calls : List Call) (r : Run) → AsPrescribed c t is f r (prescribed t calls) → Holds t calls r
+  from-prescribed calls r h =
       let k = prescribed t calls in
       record {
         laid-down = h .words;
@@ -113,7 +113,7 @@ holds : (c : Config) (t : Timing) → timingOf c ≡ value t → (calls : List C
 holds c t is calls =
     let a = accepted c t is in
     let f = subst Figures (a .1) (figures c (a .0)) in
-    from-kept c t is f calls (run c calls) (all-kept c t is f _ _ calls (start-kept c t is f))
+    from-prescribed c t is f calls (run c calls) (all-prescribed c t is f _ _ calls (start-prescribed c t is f))
 
 -- a controller on a refused configuration stays as it is
 refused-stays : (n : ℕ) (r : Run) (calls : List Call) → timingOf (r .controller .config) ≡ refused n → runFrom r calls .controller ≡ r .controller

@@ -22,7 +22,7 @@ use Rattle.rules.specs.Stamps.{remembered}
 use Rattle.rules.proofs.Newest.{Ordered}
 use Rattle.rules.proofs.Summary.{summary, summary-step}
 use Rattle.rules.proofs.Words.{ordered-mono}
-use Rattle.protocol.proofs.Kept.{fits}
+use Rattle.protocol.proofs.Before.{fits}
 use Rattle.model.specs.Laid.{Course}
 use Rattle.model.specs.Laid as laid
 use Rattle.controller.specs.States.{vacant}

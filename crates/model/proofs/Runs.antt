@@ -53,7 +53,7 @@ abbrev pub closingBound : Timing → Accepted → ℕ
 closingBound t a = bound t (a .ticks) (a .ahead)
 
 module _ (c : Config) (t : Timing) (is : timingOf c ≡ value t) (f : Figures t) where
-  pub record Kept (r : Run) (k : Prescribed) : Type 0 where
+  pub record AsPrescribed (r : Run) (k : Prescribed) : Type 0 where
     pub words : r .words ≡ k .words
     pub past : k .course .past ≡ pastFrom nothing (k .words)
     pub clock : k .course .past .clock ≡ length (k .words)
@@ -66,9 +66,9 @@ module _ (c : Config) (t : Timing) (is : timingOf c ≡ value t) (f : Figures t)
     pub met : Met (firstsOf (k .course)) (map (closingBound t) (r .accepted)) bounds
 
   -- a tick
-  given : (r : Run) (k : Prescribed) → Kept r k → length (k .words) < 16777216
+  given : (r : Run) (k : Prescribed) → AsPrescribed r k → length (k .words) < 16777216
       → let a = laid.tick t (k .course) in
-      Kept (called r tick) (record { words = k .words ++ (a .word ∷ []); course = a .after })
+      AsPrescribed (called r tick) (record { words = k .words ++ (a .word ∷ []); course = a .after })
   given r k h low =
       let x = k .course in
       let a = laid.tick t x in
@@ -77,7 +77,7 @@ module _ (c : Config) (t : Timing) (is : timingOf c ≡ value t) (f : Figures t)
       let ticks = tick-represents c t is f (r .controller) x (h .bounds) (h .represents) (h .going) (omega arith) in
       let longer = length-append (k .words) (a .word ∷ []) in
       let one : a .after .past .clock ≡ x .past .clock + 1 = ap (λ p. p .clock) (tick-past t x) ∙ clock-is (x .past .opened) (x .past) (a .word) in
-      subst⁻¹ (λ y. Kept (record { words = r .words ++ ifAccepted (y .outcome) (y .word); accepted = r .accepted; controller = y .after }) (record { words = k .words ++ (a .word ∷ []); course = a .after })) (ticks .tick)
+      subst⁻¹ (λ y. AsPrescribed (record { words = r .words ++ ifAccepted (y .outcome) (y .word); accepted = r .accepted; controller = y .after }) (record { words = k .words ++ (a .word ∷ []); course = a .after })) (ticks .tick)
       (record {
         words = ap (λ ws. ws ++ (a .word ∷ [])) (h .words);
         past = tick-past t x ∙ ap (λ p. extend p (a .word)) (h .past) ∙ sym (past-append nothing (k .words) (a .word));
@@ -91,13 +91,13 @@ module _ (c : Config) (t : Timing) (is : timingOf c ≡ value t) (f : Figures t)
         met = g .met (map (closingBound t) (r .accepted)) (h .met);
       })
 
-  pub tick-kept : (r : Run) (k : Prescribed) → Kept r k → Kept (called r tick) (followed t k tick)
-  tick-kept r k h = by (ltb (length (k .words)) 16777216) refl
+  pub tick-prescribed : (r : Run) (k : Prescribed) → AsPrescribed r k → AsPrescribed (called r tick) (followed t k tick)
+  tick-prescribed r k h = by (ltb (length (k .words)) 16777216) refl
     where
       a : laid.Advance
       a = laid.tick t (k .course)
 
-      by : (b : Bool) → ltb (length (k .words)) 16777216 ≡ b → Kept (called r tick) (cond b (record { words = k .words ++ (a .word ∷ []); course = a .after }) k)
+      by : (b : Bool) → ltb (length (k .words)) 16777216 ≡ b → AsPrescribed (called r tick) (cond b (record { words = k .words ++ (a .word ∷ []); course = a .after }) k)
       by true e = given r k h (ltb-true (length (k .words)) 16777216 e)
       by false e =
           let over = ltb-false (length (k .words)) 16777216 e in
@@ -106,8 +106,8 @@ module _ (c : Config) (t : Timing) (is : timingOf c ≡ value t) (f : Figures t)
           rw (tick-ends c t is f (r .controller) (k .course) (h .bounds) (h .represents) (h .going) (omega arith), append-nil (r .words)) h
 
   -- an offer
-  taken : (r : Run) (k : Prescribed) (q : Request) → Kept r k → requestFits t q ≡ true → length (k .course .waiting) < 16
-      → Kept (called r (offer q)) (record { words = k .words; course = laid.queued (k .course) q })
+  taken : (r : Run) (k : Prescribed) (q : Request) → AsPrescribed r k → requestFits t q ≡ true → length (k .course .waiting) < 16
+      → AsPrescribed (called r (offer q)) (record { words = k .words; course = laid.queued (k .course) q })
   taken r k q h fits few =
       let s = r .controller in
       let x = k .course in
@@ -135,8 +135,8 @@ module _ (c : Config) (t : Timing) (is : timingOf c ≡ value t) (f : Figures t)
             (one-asked (firstsOf x) (map (closingBound t) (r .accepted)) (bound t (x .past .clock) (length (x .waiting))) (h .bounds) (h .met));
       })
 
-  pub offer-kept : (r : Run) (k : Prescribed) (q : Request) → Kept r k → Kept (called r (offer q)) (followed t k (offer q))
-  offer-kept r k q h = by (requestFits t q) (ltb (length (k .course .waiting)) 16) refl refl
+  pub offer-prescribed : (r : Run) (k : Prescribed) (q : Request) → AsPrescribed r k → AsPrescribed (called r (offer q)) (followed t k (offer q))
+  offer-prescribed r k q h = by (requestFits t q) (ltb (length (k .course .waiting)) 16) refl refl
     where
       is-offer : offerOf (r .controller) q ≡ refusing c t is f (r .controller) (k .course .waiting) q
       is-offer =
@@ -145,12 +145,12 @@ module _ (c : Config) (t : Timing) (is : timingOf c ≡ value t) (f : Figures t)
           offer-is c t is f (r .controller) (k .course) (h .bounds) q (h .represents) (h .going) (omega arith)
 
       by : (b d : Bool) → requestFits t q ≡ b → ltb (length (k .course .waiting)) 16 ≡ d
-          → Kept (called r (offer q)) (cond (b && d) (record { words = k .words; course = laid.queued (k .course) q }) k)
+          → AsPrescribed (called r (offer q)) (cond (b && d) (record { words = k .words; course = laid.queued (k .course) q }) k)
       by true true e g = taken r k q h e (ltb-true (length (k .course .waiting)) 16 g)
       by true false e g = rw (is-offer, e, g, append-nil (r .accepted)) h
       by false d e g = rw (is-offer, e, append-nil (r .accepted)) h
 
-  pub all-kept : (r : Run) (k : Prescribed) (calls : List Call) → Kept r k → Kept (runFrom r calls) (prescribedFrom t k calls)
-  all-kept r k [] h = h
-  all-kept r k (tick ∷ calls) h = all-kept (called r tick) (followed t k tick) calls (tick-kept r k h)
-  all-kept r k (offer q ∷ calls) h = all-kept (called r (offer q)) (followed t k (offer q)) calls (offer-kept r k q h)
+  pub all-prescribed : (r : Run) (k : Prescribed) (calls : List Call) → AsPrescribed r k → AsPrescribed (runFrom r calls) (prescribedFrom t k calls)
+  all-prescribed r k [] h = h
+  all-prescribed r k (tick ∷ calls) h = all-prescribed (called r tick) (followed t k tick) calls (tick-prescribed r k h)
+  all-prescribed r k (offer q ∷ calls) h = all-prescribed (called r (offer q)) (followed t k (offer q)) calls (offer-prescribed r k q h)

@@ -1,3 +1,3 @@
 -- The refinement of the published rules by the checker. Read Refinement last: it has the theorem.
-pub mod Kept
+pub mod Before
 pub mod Refinement

@@ -23,7 +23,7 @@ use Rattle.rules.specs.declared.stamps.Timestamps.{Timestamps}
 use Rattle.protocol.specs.declared.checker.Checker.{Checker}
 use Rattle.rules.proofs.Summary.{summary}
 use Rattle.rules.proofs.Words.{firstOf, Regular, regular-extend, stamps-is, first-is, clock-is, run, run-is}
-use Rattle.protocol.proofs.Kept.{fits}
+use Rattle.protocol.proofs.Before.{fits}
 
 -- a state with no breach recorded
 abbrev at : Config → Timestamps → ℕ → ℕ → Checker
@@ -62,7 +62,7 @@ verdict : (c : Config) (t : Timing) (ws : List ℕ) → timingOf c ≡ value t �
 verdict c t ws e h = stepping-is c t e none 0 [] ws tt (omega arith) ∙ ap value (sym (run-is t ws))
 
 -- a clock, first word and timestamps that are those of such a past
-record Kept (k f : ℕ) (s : Timestamps) : Type 0 where
+record OfPast (k f : ℕ) (s : Timestamps) : Type 0 where
   opened : Option ℕ
   pairs : List ClosedPair
   regular : Regular opened k pairs
@@ -70,8 +70,8 @@ record Kept (k f : ℕ) (s : Timestamps) : Type 0 where
   first : f ≡ firstOf opened
   stamps : s ≡ summary pairs
 
-kept-next : (k f : ℕ) (s : Timestamps) (w : ℕ) → Kept k f s → k < 16777216 → Kept (k + 1) (nextFirst f w) (nextStamps s k f w)
-kept-next k f s w h l =
+past-next : (k f : ℕ) (s : Timestamps) (w : ℕ) → OfPast k f s → k < 16777216 → OfPast (k + 1) (nextFirst f w) (nextStamps s k f w)
+past-next k f s w h l =
     let p : Past = record { clock = k; opened = h .opened; pairs = h .pairs } in
     let q = extendBy (h .opened) p w in
     record {
@@ -83,38 +83,38 @@ kept-next k f s w h l =
       stamps = rw (h .first, h .stamps) (sym (stamps-is (h .opened) p w (h .regular)));
     }
 
-kept-fits : (k f : ℕ) (s : Timestamps) → Kept k f s → clockFits k f s ≡ true
-kept-fits k f s h = rw (h .first, h .stamps) (fits (h .opened) k (h .pairs) (h .regular) (h .limit))
+past-fits : (k f : ℕ) (s : Timestamps) → OfPast k f s → clockFits k f s ≡ true
+past-fits k f s h = rw (h .first, h .stamps) (fits (h .opened) k (h .pairs) (h .regular) (h .limit))
 
-abbrev KeptBy : Checker → Type 0
-KeptBy c = Kept (c .clock) (c .first) (c .stamps)
+abbrev HasPast : Checker → Type 0
+HasPast c = OfPast (c .clock) (c .first) (c .stamps)
 
 cond-case : {A : Type 0} (P : A → Type 0) (b : Bool) (x y : A) → (b ≡ true → P x) → (b ≡ false → P y) → P (cond b x y)
 cond-case P true x y f g = f refl
 cond-case P false x y f g = g refl
 
 -- every step keeps it, whatever it answers
-kept-step : (o : Outcome Timing) (c : Checker) (w : ℕ) → KeptBy c → KeptBy (stepBy o c w .after)
-kept-step (refused n) c w h = h
-kept-step (value t) c w h =
+past-step : (o : Outcome Timing) (c : Checker) (w : ℕ) → HasPast c → HasPast (stepBy o c w .after)
+past-step (refused n) c w h = h
+past-step (value t) c w h =
     cond-case P (clockFits (c .clock) (c .first) (c .stamps)) _ _
     (λ _. cond-case P (eqb (c .breach .number) 0) _ _
     (λ _. cond-case P (ltb (c .clock) 16777216) _ _
     (λ l. cond-case P (eqb (wordBreach t (c .stamps) (c .clock) (c .first) w) 0) _ _
-    (λ _. kept-next (c .clock) (c .first) (c .stamps) w h (ltb-true (c .clock) 16777216 l))
+    (λ _. past-next (c .clock) (c .first) (c .stamps) w h (ltb-true (c .clock) 16777216 l))
     (λ _. h))
     (λ _. h))
     (λ _. h))
     (λ _. h)
   where
     P : Step → Type 0
-    P r = KeptBy (r .after)
+    P r = HasPast (r .after)
 
-kept-all : (c : Checker) (ws : List ℕ) → KeptBy c → KeptBy (afterAll c ws)
-kept-all c [] h = h
-kept-all c (w ∷ ws) h = kept-all (stepOf c w .after) ws (kept-step (timingOf (c .config)) c w h)
+past-all : (c : Checker) (ws : List ℕ) → HasPast c → HasPast (afterAll c ws)
+past-all c [] h = h
+past-all c (w ∷ ws) h = past-all (stepOf c w .after) ws (past-step (timingOf (c .config)) c w h)
 
-not-19 : (o : Outcome Timing) (c : Checker) (w : ℕ) → (o ≡ refused 19 → ⊥) → KeptBy c → stepBy o c w .outcome ≡ refused 19 → ⊥
+not-19 : (o : Outcome Timing) (c : Checker) (w : ℕ) → (o ≡ refused 19 → ⊥) → HasPast c → stepBy o c w .outcome ≡ refused 19 → ⊥
 not-19 (refused m) c w n h = λ e. n (ap refused (same-number e))
 not-19 (value t) c w n h =
     cond-case P (clockFits (c .clock) (c .first) (c .stamps)) _ _
@@ -123,7 +123,7 @@ not-19 (value t) c w n h =
     (λ l. cond-case P (eqb (wordBreach t (c .stamps) (c .clock) (c .first) w) 0) _ _ (λ _ e. refused-value (sym e)) (λ _ e. refused-value (sym e)))
     (λ _. refused-by (λ q. omega arith)))
     (λ _. refused-by (λ q. omega arith)))
-    (λ z. absurd (true≢false (sym (kept-fits (c .clock) (c .first) (c .stamps) h) ∙ z)))
+    (λ z. absurd (true≢false (sym (past-fits (c .clock) (c .first) (c .stamps) h) ∙ z)))
   where
     P : Step → Type 0
     P r = r .outcome ≡ refused 19 → ⊥
@@ -133,7 +133,7 @@ never-19 c ws w =
     let s = afterAll (fresh c) ws in
     let a = s .config in
     not-19 (timingOf a) s w (config-19 a)
-    (kept-all (fresh c) ws (record { opened = none; pairs = []; regular = tt; limit = omega arith; first = refl; stamps = refl }))
+    (past-all (fresh c) ws (record { opened = none; pairs = []; regular = tt; limit = omega arith; first = refl; stamps = refl }))
 
 pub refinement : Refinement
 refinement = record { verdict = verdict; never-19 = never-19 }
