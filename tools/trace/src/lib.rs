@@ -3,6 +3,7 @@
 mod assemble;
 mod command;
 mod fields;
+mod kind;
 mod line;
 mod list;
 mod pins;
