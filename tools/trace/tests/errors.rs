@@ -47,6 +47,17 @@ const LINES: &[(&str, &str)] = &[
         "MRS regular cl 4 bl 4 bank 0",
         "MRS regular has no field bank",
     ),
+    ("MRS bl 4 regular", "cl is missing"),
+    ("MRS cl regular bl 4", "MRS wants regular or extended"),
+    (
+        "MRS cl 4 regular bl 4 REGULAR",
+        "MRS regular has no field REGULAR",
+    ),
+    (
+        "MRS extended 0 regular cl 4 bl 4",
+        "MRS regular has no field extended",
+    ),
+    ("MRS extended regular", "extended regular is no number"),
     ("WORD", "WORD has no value"),
     ("WORD C0000", "WORD C0000 is no number"),
     ("WORD 0x100000000", "WORD 0x100000000 is above 4294967295"),
