@@ -138,6 +138,20 @@ impl Command {
             Command::Word(word) => word,
         }
     }
+
+    /// The lanes that the format has and a write's LAL leaves out, where pins that are low are the reserved code.
+    pub fn reserved_by_omission(&self, format: Format) -> Vec<&'static str> {
+        let mut lanes = Vec::new();
+        if let (Command::Lal { lower, upper, .. }, 4) = (self, format.bl) {
+            if lower.is_none() {
+                lanes.push("lower");
+            }
+            if upper.is_none() && format.has_upper() {
+                lanes.push("upper");
+            }
+        }
+        lanes
+    }
 }
 
 /// The line of the command, as the listing has it.
