@@ -21,7 +21,7 @@ pub struct Output {
     argument: OsString,
 }
 
-/// A name in messages, with signs in place of what is no UTF-8.
+/// A name in messages, with U+FFFD in place of what is no UTF-8.
 fn shown(argument: &OsStr, standard: &str) -> String {
     match argument == STANDARD {
         true => standard.to_string(),

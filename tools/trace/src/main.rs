@@ -86,8 +86,8 @@ fn run(call: &Call) -> Result<(), String> {
     let output = Output::new(&call.output);
     if output.is(&input) {
         return Err(format!(
-            "{} and {} are the same file",
-            input.name, output.name
+            "{}: input and output are the same file",
+            output.name
         ));
     }
     match call.listing {

@@ -112,7 +112,7 @@ fn one_file_as_input_and_output() {
         ] {
             let mut call = program(&[command, input, output]);
             let ended = call.current_dir(&directory).output().unwrap();
-            let wanted = format!("{input} and {output} are the same file\n");
+            let wanted = format!("{output}: input and output are the same file\n");
             assert_eq!(said(&ended), (Some(1), wanted));
             assert_eq!(read(&source).unwrap(), content);
         }
@@ -128,11 +128,11 @@ fn one_file_as_a_standard_stream() {
         let output = File::options().append(true).open(&source).unwrap();
 
         let to_file = program(&[command, "-", name]).stdin(input()).output();
-        let wanted = format!("standard input and {name} are the same file\n");
+        let wanted = format!("{name}: input and output are the same file\n");
         assert_eq!(said(&to_file.unwrap()), (Some(1), wanted));
         let to_stream = program(&[command, name]).stdout(output).output();
-        let wanted = format!("{name} and standard output are the same file\n");
-        assert_eq!(said(&to_stream.unwrap()), (Some(1), wanted));
+        let wanted = "standard output: input and output are the same file\n";
+        assert_eq!(said(&to_stream.unwrap()), (Some(1), wanted.to_string()));
         assert_eq!(read(&source).unwrap(), content);
     }
 }

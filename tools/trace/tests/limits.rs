@@ -2,10 +2,10 @@
 
 mod common;
 
-use common::{faults, piped, run, said};
+use common::{bytes, faults, listing, piped, run, said};
 use std::io::{self, BufRead, Read, Write};
 use std::process::Command;
-use trace::{assemble, LONGEST_LINE, LONGEST_TEXT};
+use trace::{assemble, Format, LONGEST, LONGEST_LINE, LONGEST_TEXT};
 
 /// A text that repeats a block without end.
 struct Endless {
@@ -38,11 +38,25 @@ impl Read for Endless {
     }
 }
 
+/// The lines before the one that is named are the longest text, to the byte.
 #[test]
 fn a_text() {
-    assert!(assemble(comments().take(LONGEST_TEXT)).is_ok());
+    assert_eq!(LONGEST_TEXT, 4096 * LONGEST_LINE);
     let wanted = "t:4097: the text is longer than 4294967296 bytes";
     assert_eq!(faults(comments()), [wanted]);
+}
+
+/// A word's line in a listing keeps to the word's share of the longest text.
+#[test]
+fn a_listing() {
+    let share = (LONGEST_TEXT / LONGEST) as usize;
+    for word in (0..1 << 20).step_by(61).chain([u32::MAX]) {
+        for first in [0xC0000, 0xA0000, 0x80000] {
+            let text = listing(&bytes(&[first, word]), Format::default());
+            // The clocks have one digit here and eight at most.
+            assert!(text.lines().all(|line| line.len() + 8 <= share), "{text}");
+        }
+    }
 }
 
 #[test]
@@ -61,7 +75,7 @@ fn a_line() {
     assert_eq!(faults(after_others.as_bytes()), wanted);
 }
 
-/// Runs `trace assemble` in 64 MiB of memory on so many bytes; gives its status and words, and whether it took all of them.
+/// Runs `trace assemble` in 64 MiB of memory; gives its status, what it said, and whether it read the whole text.
 fn in_little_memory(mut text: impl Read) -> (Option<i32>, String, bool) {
     let mut shell = Command::new("sh");
     shell.args(["-c", "ulimit -v 65536; exec \"$0\" assemble - /dev/null"]);
