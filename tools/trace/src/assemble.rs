@@ -1,57 +1,74 @@
 //! From text to words.
 
 use crate::command::{Command, Format};
+use crate::kind::{open_after, Kind};
 use crate::line::{parse, Line};
+use crate::lines::Lines;
+use crate::remarks::Remarks;
+use crate::runs::Trace;
 use crate::LONGEST;
-use std::fmt;
-use std::io::{self, Write};
+use std::io::{self, BufRead};
 
-/// A line that is wrong, counted from 1, and what is wrong with it.
-#[derive(Debug, PartialEq, Eq)]
-pub struct Fault {
-    pub line: usize,
-    pub what: String,
+/// What a text without a wrong line gives, and the lines of it that deserve a warning.
+#[derive(Debug)]
+pub struct Assembled {
+    pub trace: Trace,
+    pub warnings: Remarks,
 }
 
-impl fmt::Display for Fault {
-    fn fmt(&self, out: &mut fmt::Formatter) -> fmt::Result {
-        write!(out, "line {}: {}", self.line, self.what)
+/// Why a text gives nothing.
+#[derive(Debug)]
+pub enum Failure {
+    Unreadable(io::Error),
+    Wrong(Remarks),
+}
+
+impl From<io::Error> for Failure {
+    fn from(error: io::Error) -> Failure {
+        Failure::Unreadable(error)
     }
 }
 
-/// A trace: runs of one word, each with its length, and up to three bytes behind the last word.
-#[derive(Debug, Default, PartialEq, Eq)]
-pub struct Trace {
-    runs: Vec<(u32, u64)>,
-    rest: Vec<u8>,
+/// What is wrong: a line, or the text from a line on.
+enum Wrong {
+    Line(String),
+    Rest(String),
 }
 
-/// Words of one run that are written at once.
-const PIECE: u64 = 16_384;
+impl From<String> for Wrong {
+    fn from(what: String) -> Wrong {
+        Wrong::Line(what)
+    }
+}
 
-impl Trace {
-    /// Writes the words, the lowest byte of each first.
-    pub fn write(&self, out: &mut impl Write) -> io::Result<()> {
-        for &(word, count) in &self.runs {
-            let piece = word.to_le_bytes().repeat(count.min(PIECE) as usize);
-            for _ in 0..count / PIECE {
-                out.write_all(&piece)?;
+/// What a line is worth a warning for, or what is wrong.
+type Outcome = Result<Option<String>, Wrong>;
+
+/// Assembles a text; one with a wrong line gives nothing. No more is read once enough lines are found wrong.
+pub fn assemble(text: impl BufRead) -> Result<Assembled, Failure> {
+    let mut lines = Lines::new(text);
+    let mut assembler = Assembler::default();
+    let (mut faults, mut warnings) = (Remarks::default(), Remarks::default());
+    while !faults.more() && lines.advance()? {
+        let line = lines.line().map_err(Wrong::Rest);
+        match line.and_then(|line| assembler.line(line)) {
+            Ok(None) => {}
+            Ok(Some(warning)) => warnings.add(lines.number(), &warning),
+            Err(Wrong::Line(what)) => faults.add(lines.number(), &what),
+            Err(Wrong::Rest(what)) => {
+                faults.add(lines.number(), &what);
+                break;
             }
-            out.write_all(&piece[..4 * (count % PIECE) as usize])?;
         }
-        out.write_all(&self.rest)
     }
-
-    /// The bytes of the trace.
-    pub fn bytes(&self) -> Vec<u8> {
-        let mut bytes = Vec::new();
-        self.write(&mut bytes).expect("memory takes all bytes");
-        bytes
+    match faults.is_empty() {
+        true => Ok(Assembled {
+            trace: assembler.trace,
+            warnings,
+        }),
+        false => Err(Failure::Wrong(faults)),
     }
 }
-
-/// What some editors put before a text.
-const BYTE_ORDER_MARK: &[u8] = "\u{FEFF}".as_bytes();
 
 /// What the lines so far have given.
 #[derive(Default)]
@@ -60,58 +77,30 @@ struct Assembler {
     organisation: Option<u32>,
     /// The clock of the next word.
     clock: u64,
+    /// The first word of the open pair.
+    first: Option<u32>,
     trace: Trace,
 }
 
-/// Assembles a text; nothing is given for a text with a wrong line, and the first such is named.
-pub fn assemble(text: &[u8]) -> Result<Trace, Fault> {
-    let text = text.strip_prefix(BYTE_ORDER_MARK).unwrap_or(text);
-    let mut assembler = Assembler::default();
-    for (index, line) in text.split(|&byte| byte == b'\n').enumerate() {
-        let line_number = index + 1;
-        assembler.line(line).map_err(|what| Fault {
-            line: line_number,
-            what: printable(&what),
-        })?;
-    }
-    Ok(assembler.trace)
-}
-
-/// The most characters of what is said of a line.
-const MOST_SAID: usize = 200;
-
-/// What is said of a line, which may quote it: cut short, and its control characters escaped.
-fn printable(what: &str) -> String {
-    let escaped = |c: char| match c.is_control() {
-        true => c.escape_default().to_string(),
-        false => c.to_string(),
-    };
-    let mut said: String = what.chars().take(MOST_SAID).map(escaped).collect();
-    if what.chars().nth(MOST_SAID).is_some() {
-        said.push('…');
-    }
-    said
-}
-
 impl Assembler {
-    fn line(&mut self, line: &[u8]) -> Result<(), String> {
+    /// Does what a line says; a wrong line does nothing.
+    fn line(&mut self, line: &[u8]) -> Outcome {
         let line = std::str::from_utf8(line).map_err(|_| "not UTF-8 text".to_string())?;
         match parse(line, self.format())? {
-            None => Ok(()),
-            Some(Line::Words(command, count)) => self.words(command, count),
-            Some(Line::At(clock)) => self.at(clock),
-            Some(Line::Byte(byte)) => self.byte(byte),
+            None => {}
+            Some(Line::Words(command, count)) => return self.words(command, count),
+            Some(Line::At(clock)) => return self.at(clock),
+            Some(Line::Byte(byte)) => self.byte(byte)?,
             Some(Line::Bl(bl)) => {
                 self.before_all("bl", self.bl.is_some())?;
                 self.bl = Some(bl);
-                Ok(())
             }
             Some(Line::Organisation(organisation)) => {
                 self.before_all("organisation", self.organisation.is_some())?;
                 self.organisation = Some(organisation);
-                Ok(())
             }
         }
+        Ok(None)
     }
 
     /// The format by the lines so far.
@@ -128,45 +117,58 @@ impl Assembler {
         if set {
             return Err(format!("{name} stands twice"));
         }
-        if self.clock > 0 || !self.trace.rest.is_empty() {
+        if self.clock > 0 || self.trace.rest() > 0 {
             return Err(format!("{name} stands after the first word"));
         }
         Ok(())
     }
 
     /// Adds a command, so many times.
-    fn words(&mut self, command: Command, count: u64) -> Result<(), String> {
-        if !self.trace.rest.is_empty() {
-            return Err("a word stands after BYTE".to_string());
+    fn words(&mut self, command: Command, count: u64) -> Outcome {
+        if self.trace.rest() > 0 {
+            return Err("a word stands after BYTE".to_string().into());
         }
         if self.clock + count > LONGEST {
-            return Err(format!("the trace is longer than {LONGEST} words"));
+            let what = format!("the trace is longer than {LONGEST} words");
+            return Err(Wrong::Rest(what));
         }
+        let warning = self.warning(command);
         self.clock += count;
-        self.trace.runs.push((command.word(), count));
-        Ok(())
+        self.first = open_after(self.first, command.word(), count);
+        self.trace.add(command.word(), count as u32);
+        Ok(warning)
+    }
+
+    /// What is to be said of a LAL that closes a write and leaves out a lane, where that is the reserved code.
+    fn warning(&self, command: Command) -> Option<String> {
+        if Kind::of(self.first, command.word()) != Kind::WriteLal {
+            return None;
+        }
+        let lanes = command.reserved_by_omission(self.format());
+        let lanes = (!lanes.is_empty()).then(|| lanes.join(" or "))?;
+        Some(format!(
+            "warning: a write's LAL without {lanes} has the reserved code of BL 4"
+        ))
     }
 
     /// Adds DESL up to a clock.
-    fn at(&mut self, clock: u64) -> Result<(), String> {
+    fn at(&mut self, clock: u64) -> Outcome {
         if clock < self.clock {
-            return Err(format!(
-                "at {clock} is past, the next clock is {}",
-                self.clock
-            ));
+            let next = self.clock;
+            return Err(format!("at {clock} is past, the next clock is {next}").into());
         }
         match clock - self.clock {
-            0 => Ok(()),
+            0 => Ok(None),
             count => self.words(Command::Desl, count),
         }
     }
 
     /// Adds a byte behind the last word.
     fn byte(&mut self, byte: u8) -> Result<(), String> {
-        if self.trace.rest.len() == 3 {
+        if self.trace.rest() == 3 {
             return Err("a fourth BYTE would make a word".to_string());
         }
-        self.trace.rest.push(byte);
+        self.trace.add_byte(byte);
         Ok(())
     }
 }

@@ -1,6 +1,6 @@
 //! The commands that a word can be written as, each with the one word that it stands for.
 
-use crate::pins::{a, high, number, BA0, BA2, BANK_SHIFT, CS, FN, PD};
+use crate::pins::{a, high, BA0, BA2, BANK_SHIFT, CS, FN, PD};
 use std::fmt;
 
 /// What the width of a column and the codes of a write's lanes depend on.
@@ -44,8 +44,8 @@ const LANES_AT_BL_4: [Lane; 4] = [
 ];
 
 /// The pins of VW0 and VW1, of the lower lane and of the upper one.
-const LOWER: (u32, u32) = (BA2, a(13));
-const UPPER: (u32, u32) = (a(12), a(11));
+pub const LOWER: (u32, u32) = (BA2, a(13));
+pub const UPPER: (u32, u32) = (a(12), a(11));
 
 impl Lane {
     /// The word's pins that the lane sets high.
@@ -57,7 +57,7 @@ impl Lane {
 
 impl Format {
     /// The pins that carry a column: A0 to A7 by 16, A0 to A8 by 8.
-    fn column_pins(self) -> u32 {
+    pub fn column_pins(self) -> u32 {
         if self.organisation == 16 {
             8
         } else {
@@ -84,7 +84,7 @@ impl Format {
     }
 
     /// The lane on a word's pins.
-    fn lane(self, word: u32, (vw0, vw1): (u32, u32)) -> Option<&'static Lane> {
+    pub fn lane(self, word: u32, (vw0, vw1): (u32, u32)) -> Option<&'static Lane> {
         let levels = (high(word, vw0), high(word, vw1));
         self.lanes().iter().find(|lane| lane.levels == levels)
     }
@@ -138,6 +138,20 @@ impl Command {
             Command::Word(word) => word,
         }
     }
+
+    /// The lanes that the format has and a write's LAL leaves out, where pins that are low are the reserved code.
+    pub fn reserved_by_omission(&self, format: Format) -> Vec<&'static str> {
+        let mut lanes = Vec::new();
+        if let (Command::Lal { lower, upper, .. }, 4) = (self, format.bl) {
+            if lower.is_none() {
+                lanes.push("lower");
+            }
+            if upper.is_none() && format.has_upper() {
+                lanes.push("upper");
+            }
+        }
+        lanes
+    }
 }
 
 /// The line of the command, as the listing has it.
@@ -160,125 +174,6 @@ impl fmt::Display for Command {
             Command::Regular { cl, bl, a3 } => write!(out, "MRS regular cl {cl} bl {bl} a3 {a3}"),
             Command::Ref => write!(out, "REF"),
             Command::Word(word) => write!(out, "WORD {word:#X}"),
-        }
-    }
-}
-
-/// What a word is by CS, FN and the pair that is open.
-#[derive(Clone, Copy, Debug, PartialEq, Eq)]
-pub enum Kind {
-    Desl,
-    Rda,
-    Wra,
-    /// LAL of a read.
-    ReadLal,
-    /// LAL of a write.
-    WriteLal,
-    Mrs,
-    Ref,
-}
-
-impl Kind {
-    /// What a word is; `first` is the first word of the open pair.
-    pub fn of(first: Option<u32>, word: u32) -> Kind {
-        match (first.map(|first| high(first, FN)), high(word, CS)) {
-            (None, true) => Kind::Desl,
-            (None, false) if high(word, FN) => Kind::Rda,
-            (None, false) => Kind::Wra,
-            (Some(true), true) => Kind::ReadLal,
-            (Some(false), true) => Kind::WriteLal,
-            (Some(true), false) => Kind::Mrs,
-            (Some(false), false) => Kind::Ref,
-        }
-    }
-
-    /// The maker's name.
-    pub fn name(self) -> &'static str {
-        match self {
-            Kind::Desl => "DESL",
-            Kind::Rda => "RDA",
-            Kind::Wra => "WRA",
-            Kind::ReadLal | Kind::WriteLal => "LAL",
-            Kind::Mrs => "MRS",
-            Kind::Ref => "REF",
-        }
-    }
-
-    /// The command that gives the word back bit for bit: the named one if it does, else the word itself.
-    pub fn read(self, format: Format, word: u32) -> Command {
-        let named = self.named(format, word);
-        match named {
-            Some(command) if command.word() == word => command,
-            _ => Command::Word(word),
-        }
-    }
-
-    /// The command by the fields of the word; its other pins are not looked at.
-    fn named(self, format: Format, word: u32) -> Option<Command> {
-        let bank = number(word, BANK_SHIFT, 3);
-        let row = number(word, 0, 14);
-        let column = number(word, 0, format.column_pins());
-        let (mut lower, mut upper) = (None, None);
-        if self == Kind::WriteLal {
-            lower = Some(format.lane(word, LOWER)?);
-            if format.has_upper() {
-                upper = Some(format.lane(word, UPPER)?);
-            }
-        }
-        Some(match self {
-            Kind::Desl => Command::Desl,
-            Kind::Rda => Command::Rda { bank, row },
-            Kind::Wra => Command::Wra { bank, row },
-            Kind::ReadLal | Kind::WriteLal => Command::Lal {
-                column,
-                lower,
-                upper,
-            },
-            Kind::Mrs => mode(word)?,
-            Kind::Ref => Command::Ref,
-        })
-    }
-}
-
-/// The mode by the fields of an MRS word; none for a code that is of no BL.
-fn mode(word: u32) -> Option<Command> {
-    if high(word, BA0) {
-        return Some(Command::Extended(number(word, 1, 6)));
-    }
-    let bl = match number(word, 0, 3) {
-        1 => 2,
-        2 => 4,
-        _ => return None,
-    };
-    let cl = number(word, 4, 3);
-    let a3 = number(word, 3, 1);
-    Some(Command::Regular { cl, bl, a3 })
-}
-
-#[cfg(test)]
-mod tests {
-    use super::*;
-
-    const KINDS: [Kind; 7] = [
-        Kind::Desl,
-        Kind::Rda,
-        Kind::Wra,
-        Kind::ReadLal,
-        Kind::WriteLal,
-        Kind::Mrs,
-        Kind::Ref,
-    ];
-
-    /// Whatever a word is taken for, the command read from it gives it back.
-    #[test]
-    fn every_word_comes_back() {
-        for (bl, organisation) in [(4, 16), (4, 8), (2, 16), (2, 8)] {
-            let format = Format { bl, organisation };
-            for kind in KINDS {
-                for word in 0..1 << 21 {
-                    assert_eq!(kind.read(format, word).word(), word);
-                }
-            }
         }
     }
 }

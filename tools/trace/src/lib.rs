@@ -3,13 +3,20 @@
 mod assemble;
 mod command;
 mod fields;
+mod kind;
 mod line;
+mod lines;
 mod list;
 mod pins;
+mod remarks;
+mod runs;
 
-pub use assemble::{assemble, Fault, Trace};
+pub use assemble::{assemble, Assembled, Failure};
 pub use command::Format;
+pub use lines::{LONGEST_LINE, LONGEST_TEXT};
 pub use list::list;
+pub use remarks::Remarks;
+pub use runs::Trace;
 
 /// The most words of a trace that is assembled or listed: four times the longest that is checked.
 pub const LONGEST: u64 = 67_108_864;

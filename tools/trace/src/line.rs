@@ -80,26 +80,35 @@ fn command(name: &str, rest: &[&str], format: Format) -> Outcome<Line> {
     repeated(fields, command, name)
 }
 
-/// Reads an MRS of either register.
+/// Reads an MRS of either register. `regular` is a name without a value, and stands anywhere among the fields.
 fn mode(rest: &[&str]) -> Outcome<Line> {
-    let register = rest.first().map(|token| token.to_ascii_lowercase());
-    match register.as_deref() {
-        Some("regular") => {
-            let mut fields = Fields::new(&rest[1..])?;
-            let command = Command::Regular {
-                cl: fields.needed("cl", 0..=7)? as u32,
-                bl: fields.one_of("bl", &[2, 4])?,
-                a3: fields.number("a3", 1)?,
-            };
-            repeated(fields, command, "MRS regular")
-        }
-        Some("extended") => {
-            let mut fields = Fields::new(rest)?;
-            let command = Command::Extended(fields.needed("extended", 0..=63)? as u32);
-            repeated(fields, command, "MRS extended")
-        }
-        _ => Err("MRS wants regular or extended".to_string()),
+    if let Some(place) = field(rest, "regular") {
+        return regular(&[&rest[..place], &rest[place + 1..]].concat());
     }
+    if field(rest, "extended").is_none() {
+        return Err("MRS wants regular or extended".to_string());
+    }
+    let mut fields = Fields::new(rest)?;
+    let command = Command::Extended(fields.needed("extended", 0..=63)? as u32);
+    repeated(fields, command, "MRS extended")
+}
+
+/// The place of a name, the tokens before it being fields with values.
+fn field(tokens: &[&str], name: &str) -> Option<usize> {
+    (0..tokens.len())
+        .step_by(2)
+        .find(|&place| tokens[place].eq_ignore_ascii_case(name))
+}
+
+/// Reads the fields of a regular MRS.
+fn regular(tokens: &[&str]) -> Outcome<Line> {
+    let mut fields = Fields::new(tokens)?;
+    let command = Command::Regular {
+        cl: fields.needed("cl", 0..=7)? as u32,
+        bl: fields.one_of("bl", &[2, 4])?,
+        a3: fields.number("a3", 1)?,
+    };
+    repeated(fields, command, "MRS regular")
 }
 
 /// The command with the repeat count; the line has nothing else.

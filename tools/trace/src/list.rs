@@ -1,6 +1,7 @@
 //! From words to text.
 
-use crate::command::{Command, Format, Kind};
+use crate::command::{Command, Format};
+use crate::kind::{open_after, Kind};
 use crate::pins::{high, CS};
 use std::io::{self, Write};
 
@@ -77,10 +78,6 @@ impl<W: Write> Lister<'_, W> {
     /// Lists one word that opens or closes a pair.
     fn single(&mut self, word: u32) -> io::Result<()> {
         let kind = Kind::of(self.first, word);
-        self.first = match self.first {
-            None => Some(word),
-            Some(_) => None,
-        };
         self.line(kind.read(self.format, word), 1, kind.name())
     }
 
@@ -91,7 +88,6 @@ impl<W: Write> Lister<'_, W> {
 
     /// Lists many equal words that open and close pairs, from an opening one on.
     fn in_turn(&mut self, word: u32, count: u64) -> io::Result<()> {
-        self.first = (count % 2 == 1).then_some(word);
         let opening = Kind::of(None, word).name();
         let closing = Kind::of(Some(word), word).name();
         let note = format!("{opening} and {closing} in turn");
@@ -110,6 +106,7 @@ impl<W: Write> Lister<'_, W> {
             note += &format!(", {kind}");
         }
         self.clock += count;
+        self.first = open_after(self.first, command.word(), count);
         writeln!(self.out, "{text:<39} # {note}")
     }
 }

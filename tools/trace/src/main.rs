@@ -1,9 +1,12 @@
 //! The command line: `trace assemble` and `trace list`.
 
-use std::fs::File;
-use std::io::{self, BufWriter, Read, Write};
+mod files;
+
+use files::{Input, Output, STANDARD};
+use std::ffi::{OsStr, OsString};
+use std::io::{self, BufReader, Write};
 use std::process::ExitCode;
-use trace::{assemble, list, Format, LONGEST};
+use trace::{assemble, list, Failure, Format, LONGEST};
 
 const USAGE: &str = "usage:
   trace assemble [TEXT [TRACE]]                                  from text to words
@@ -14,29 +17,34 @@ A file that is left out, or is -, is standard input or output. BL 4, by 16 unles
 struct Call {
     listing: bool,
     format: Format,
-    input: String,
-    output: String,
+    input: OsString,
+    output: OsString,
 }
 
 fn main() -> ExitCode {
-    let arguments: Vec<String> = std::env::args().skip(1).collect();
+    let arguments: Vec<OsString> = std::env::args_os().skip(1).collect();
     let Some(call) = call(&arguments) else {
-        eprintln!("{USAGE}");
+        say(USAGE);
         return ExitCode::from(2);
     };
     match run(&call) {
         Ok(()) => ExitCode::SUCCESS,
         Err(what) => {
-            eprintln!("{what}");
+            say(&what);
             ExitCode::FAILURE
         }
     }
 }
 
+/// Says something on standard error; where that fails the status is all there is.
+fn say(what: &str) {
+    let _ = io::stderr().write_all(format!("{what}\n").as_bytes());
+}
+
 /// Reads the arguments; none if they are not as the usage has them.
-fn call(arguments: &[String]) -> Option<Call> {
+fn call(arguments: &[OsString]) -> Option<Call> {
     let mut arguments = arguments.iter();
-    let listing = match arguments.next()?.as_str() {
+    let listing = match arguments.next()?.to_str()? {
         "assemble" => false,
         "list" => true,
         _ => return None,
@@ -44,71 +52,71 @@ fn call(arguments: &[String]) -> Option<Call> {
     let mut format = Format::default();
     let mut files = Vec::new();
     while let Some(argument) = arguments.next() {
-        match argument.as_str() {
+        if !argument.as_encoded_bytes().starts_with(b"--") {
+            files.push(argument.clone());
+            continue;
+        }
+        match argument.to_str()? {
             "--bl" if listing => format.bl = one_of(arguments.next()?, [2, 4])?,
             "--organisation" if listing => {
                 format.organisation = one_of(arguments.next()?, [8, 16])?;
             }
-            option if option.starts_with("--") => return None,
-            file => files.push(file.to_string()),
+            _ => return None,
         }
     }
     let mut files = files.into_iter();
     let call = Call {
         listing,
         format,
-        input: files.next().unwrap_or("-".to_string()),
-        output: files.next().unwrap_or("-".to_string()),
+        input: files.next().unwrap_or(STANDARD.into()),
+        output: files.next().unwrap_or(STANDARD.into()),
     };
     files.next().is_none().then_some(call)
 }
 
 /// The number, if it is one of two.
-fn one_of(text: &str, values: [u32; 2]) -> Option<u32> {
-    let value = text.parse().ok()?;
+fn one_of(text: &OsStr, values: [u32; 2]) -> Option<u32> {
+    let value = text.to_str()?.parse().ok()?;
     values.contains(&value).then_some(value)
 }
 
-/// Does what is asked for. The output is not touched before the whole input is found good.
+/// Does what is asked for; a failure is what is to be said of it.
 fn run(call: &Call) -> Result<(), String> {
-    // Words past the longest trace are not read: the input may have no end.
-    let most = if call.listing {
-        4 * LONGEST + 4
-    } else {
-        u64::MAX
-    };
-    let input = read(&call.input, most).map_err(|e| format!("{}: {e}", call.input))?;
-    let fault = |e: io::Error| format!("{}: {e}", call.output);
-    if !call.listing {
-        let trace = assemble(&input).map_err(|e| e.to_string())?;
-        return write(&call.output, |out| trace.write(out)).map_err(fault);
+    let input = Input::open(&call.input)?;
+    let output = Output::new(&call.output);
+    if output.is(&input) {
+        return Err(format!(
+            "{}: input and output are the same file",
+            output.name
+        ));
     }
-    if input.len() as u64 / 4 > LONGEST {
-        return Err(format!("the trace is longer than {LONGEST} words"));
+    match call.listing {
+        true => run_list(&input, call.format, &output),
+        false => run_assemble(&input, &output),
     }
-    write(&call.output, |out| list(&input, call.format, out)).map_err(fault)
 }
 
-/// The bytes of a file or of standard input, up to so many.
-fn read(name: &str, most: u64) -> io::Result<Vec<u8>> {
-    let file: Box<dyn Read> = match name {
-        "-" => Box::new(io::stdin().lock()),
-        _ => Box::new(File::open(name)?),
-    };
-    let mut bytes = Vec::new();
-    file.take(most).read_to_end(&mut bytes)?;
-    Ok(bytes)
+/// From words to text. Words past the longest trace are not read: the input may have no end.
+fn run_list(input: &Input, format: Format, output: &Output) -> Result<(), String> {
+    let name = &input.name;
+    let bytes = input
+        .bytes(4 * LONGEST + 4)
+        .map_err(|error| format!("{name}: {error}"))?;
+    if bytes.len() as u64 / 4 > LONGEST {
+        return Err(format!("{name}: the trace is longer than {LONGEST} words"));
+    }
+    output.write(|out| list(&bytes, format, out))
 }
 
-type Output = BufWriter<Box<dyn Write>>;
-
-/// Writes a file or standard output.
-fn write(name: &str, content: impl Fn(&mut Output) -> io::Result<()>) -> io::Result<()> {
-    let file: Box<dyn Write> = match name {
-        "-" => Box::new(io::stdout().lock()),
-        _ => Box::new(File::create(name)?),
-    };
-    let mut out = BufWriter::new(file);
-    content(&mut out)?;
-    out.flush()
+/// From text to words.
+fn run_assemble(input: &Input, output: &Output) -> Result<(), String> {
+    let name = &input.name;
+    let assembled = assemble(BufReader::new(&input.file)).map_err(|failure| match failure {
+        Failure::Unreadable(error) => format!("{name}: {error}"),
+        Failure::Wrong(faults) => faults.messages(name, "wrong lines").join("\n"),
+    })?;
+    for warning in assembled.warnings.messages(name, "warnings") {
+        say(&warning);
+    }
+    output.write(|out| assembled.trace.write(out))
 }

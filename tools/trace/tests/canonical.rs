@@ -100,6 +100,24 @@ fn by_hand() {
 }
 
 #[test]
+fn fields_in_any_order() {
+    let lines = [
+        ("RDA row 5 x 2 bank 1", "RDA bank 1 row 5 x 2"),
+        (
+            "LAL upper 1 column 3 lower 4",
+            "LAL column 3 lower 4 upper 1",
+        ),
+        ("MRS bl 4 regular cl 4", "MRS regular cl 4 bl 4"),
+        ("MRS a3 1 cl 5 bl 2 Regular", "MRS regular cl 5 bl 2 a3 1"),
+        ("MRS x 2 cl 4 regular bl 4", "MRS regular cl 4 bl 4 x 2"),
+        ("MRS x 2 extended 9", "MRS extended 9 x 2"),
+    ];
+    for (line, in_order) in lines {
+        assert_eq!(assembled(line), assembled(in_order), "{line}");
+    }
+}
+
+#[test]
 fn other_formats() {
     let texts = [
         (2, 16, "bl 2\n", "LAL column 9 lower 2 upper 1 ", 0xC1009),

@@ -1,6 +1,8 @@
-//! Every fault of a text: the line is named, and what is wrong with it.
+//! Every fault of a text: the lines are named, and what is wrong with each.
 
-use trace::assemble;
+mod common;
+
+use common::faults;
 
 /// Single lines and what is wrong with them.
 const LINES: &[(&str, &str)] = &[
@@ -47,6 +49,17 @@ const LINES: &[(&str, &str)] = &[
         "MRS regular cl 4 bl 4 bank 0",
         "MRS regular has no field bank",
     ),
+    ("MRS bl 4 regular", "cl is missing"),
+    ("MRS cl regular bl 4", "MRS wants regular or extended"),
+    (
+        "MRS cl 4 regular bl 4 REGULAR",
+        "MRS regular has no field REGULAR",
+    ),
+    (
+        "MRS extended 0 regular cl 4 bl 4",
+        "MRS regular has no field extended",
+    ),
+    ("MRS extended regular", "extended regular is no number"),
     ("WORD", "WORD has no value"),
     ("WORD C0000", "WORD C0000 is no number"),
     ("WORD 0x100000000", "WORD 0x100000000 is above 4294967295"),
@@ -104,23 +117,18 @@ const TEXTS: &[(&str, &str)] = &[
     ),
 ];
 
-/// The fault of a text, as the program prints it.
-fn fault(text: &[u8]) -> String {
-    match assemble(text) {
-        Ok(_) => panic!("no fault in {}", String::from_utf8_lossy(text)),
-        Err(fault) => fault.to_string(),
-    }
-}
-
 #[test]
 fn single_lines() {
     for (line, what) in LINES {
-        assert_eq!(fault(line.as_bytes()), format!("line 1: {what}"));
+        assert_eq!(faults(line.as_bytes()), [format!("t:1: {what}")]);
         let later = format!("DESL x 3 # a comment\n\n  {line} # another\r\nNOP\n");
         match line.split(' ').next() {
             // Such a line is wrong for its place first.
             Some("bl" | "organisation") => {}
-            _ => assert_eq!(fault(later.as_bytes()), format!("line 3: {what}")),
+            _ => assert_eq!(
+                faults(later.as_bytes()),
+                [format!("t:3: {what}"), "t:4: NOP is no command".to_string()]
+            ),
         }
     }
 }
@@ -128,23 +136,61 @@ fn single_lines() {
 #[test]
 fn lines_after_others() {
     for (text, what) in TEXTS {
-        let wanted = format!("line {}: {what}", text.lines().count());
-        assert_eq!(fault(text.as_bytes()), wanted);
+        let wanted = format!("t:{}: {what}", text.lines().count());
+        assert_eq!(faults(text.as_bytes()), [wanted]);
     }
+}
+
+/// A wrong line gives no word, and those after it are judged as if it were not there.
+#[test]
+fn all_wrong_lines() {
+    let text = "DESL\nWRA bank 9\n\nRDA bank 1\nLAL row 3\nat 1\nbl 2\nDESL";
+    let wanted = [
+        "t:2: bank 9 is above 7",
+        "t:5: LAL has no field row",
+        "t:6: at 1 is past, the next clock is 2",
+        "t:7: bl stands after the first word",
+    ];
+    assert_eq!(faults(text.as_bytes()), wanted);
+}
+
+#[test]
+fn more_than_are_named() {
+    let all = |count: usize| -> Vec<String> {
+        let lines = (1..=count).map(|line| format!("t:{}: NOP is no command", 2 * line));
+        lines.collect()
+    };
+    assert_eq!(faults("DESL\nNOP\n".repeat(20).as_bytes()), all(20));
+    let more = vec!["t: there are more wrong lines".to_string()];
+    for count in [21, 22, 1000] {
+        let text = "DESL\nNOP\n".repeat(count);
+        assert_eq!(faults(text.as_bytes()), [all(20), more.clone()].concat());
+    }
+}
+
+/// Past the longest trace every line would be wrong: it is said once.
+#[test]
+fn nothing_after_the_longest_trace() {
+    let text = "NOP\nDESL x 67108864\nDESL\nDESL\nNOP";
+    let wanted = [
+        "t:1: NOP is no command",
+        "t:3: the trace is longer than 67108864 words",
+    ];
+    assert_eq!(faults(text.as_bytes()), wanted);
 }
 
 #[test]
 fn what_cannot_be_printed() {
     assert_eq!(
-        fault(b"NOP\x1B[2J\0"),
-        "line 1: NOP\\u{1b}[2J\\u{0} is no command"
+        faults(&b"NOP\x1B[2J\0"[..]),
+        ["t:1: NOP\\u{1b}[2J\\u{0} is no command"]
     );
     let long = "N".repeat(100_000);
-    let wanted = format!("line 1: {}…", "N".repeat(200));
-    assert_eq!(fault(long.as_bytes()), wanted);
+    let wanted = format!("t:1: {}…", "N".repeat(200));
+    assert_eq!(faults(long.as_bytes()), [wanted]);
 }
 
 #[test]
 fn not_text() {
-    assert_eq!(fault(b"DESL\n\xFF\n"), "line 2: not UTF-8 text");
+    assert_eq!(faults(&b"DESL\n\xFF\n"[..]), ["t:2: not UTF-8 text"]);
 }

@@ -1,37 +1,11 @@
-//! The program: its files, its exit status, and that nothing is written where a line is wrong.
+//! The program: its arguments, its exit status, and that nothing is written where a line is wrong.
 
-use std::io::Write;
-use std::path::{Path, PathBuf};
-use std::process::{Command, Output, Stdio};
+mod common;
+
+use common::{file, run, said};
 
 const TEXT: &str = "# 2 words\nDESL x 2                                # 0 to 1\n";
 const BYTES: [u8; 8] = [0, 0, 0xC, 0, 0, 0, 0xC, 0];
-
-/// Runs the program on an input.
-fn run(arguments: &[&str], input: &[u8]) -> Output {
-    let mut child = Command::new(env!("CARGO_BIN_EXE_trace"))
-        .args(arguments)
-        .stdin(Stdio::piped())
-        .stdout(Stdio::piped())
-        .stderr(Stdio::piped())
-        .spawn()
-        .expect("the program runs");
-    let mut pipe = child.stdin.take().expect("it has an input");
-    // A program that does not read its input may close it first.
-    let _ = pipe.write_all(input);
-    drop(pipe);
-    child.wait_with_output().expect("the program ends")
-}
-
-/// A file of this test's own, with some content or none.
-fn file(name: &str, content: Option<&[u8]>) -> PathBuf {
-    let path = Path::new(env!("CARGO_TARGET_TMPDIR")).join(name);
-    let _ = std::fs::remove_file(&path);
-    if let Some(content) = content {
-        std::fs::write(&path, content).expect("the file can be written");
-    }
-    path
-}
 
 #[test]
 fn standard_input_and_output() {
@@ -68,15 +42,15 @@ fn formats() {
 }
 
 #[test]
-fn a_wrong_line() {
+fn wrong_lines() {
     let text = file("wrong.txt", Some(b"DESL\nWRA bank 9\nNOP\n"));
     let trace = file("wrong.trace", None);
     let kept = file("wrong.kept", Some(b"kept"));
+    let name = text.to_str().unwrap();
+    let wanted = format!("{name}:2: bank 9 is above 7\n{name}:3: NOP is no command\n");
     for output in [&trace, &kept] {
-        let output = output.to_str().unwrap();
-        let run = run(&["assemble", text.to_str().unwrap(), output], b"");
-        assert_eq!(run.status.code(), Some(1));
-        assert_eq!(run.stderr, b"line 2: bank 9 is above 7\n");
+        let run = run(&["assemble", name, output.to_str().unwrap()], b"");
+        assert_eq!(said(&run), (Some(1), wanted.clone()));
         assert!(run.stdout.is_empty());
     }
     assert!(!trace.exists());
@@ -84,19 +58,26 @@ fn a_wrong_line() {
 }
 
 #[test]
-fn a_file_that_is_not_there() {
-    for command in ["assemble", "list"] {
-        let run = run(&[command, "no-such-file"], b"");
-        assert_eq!(run.status.code(), Some(1));
-        assert!(run.stderr.starts_with(b"no-such-file: "));
+fn a_wrong_line_of_standard_input() {
+    for files in [&[][..], &["-"]] {
+        let run = run(&[&["assemble"], files].concat(), b"DESL\nNOP");
+        let wanted = "standard input:2: NOP is no command\n";
+        assert_eq!(said(&run), (Some(1), wanted.to_string()));
+        assert!(run.stdout.is_empty());
     }
 }
 
 #[test]
-fn an_input_without_an_end() {
-    let run = run(&["list", "/dev/zero"], b"");
-    assert_eq!(run.status.code(), Some(1));
-    assert_eq!(run.stderr, b"the trace is longer than 67108864 words\n");
+fn what_cannot_be_read() {
+    for command in ["assemble", "list"] {
+        for (name, what) in [
+            ("no-such-file", "No such file or directory (os error 2)"),
+            ("/", "Is a directory (os error 21)"),
+        ] {
+            let run = run(&[command, name], b"");
+            assert_eq!(said(&run), (Some(1), format!("{name}: {what}\n")));
+        }
+    }
 }
 
 #[test]
@@ -112,8 +93,8 @@ fn wrong_arguments() {
         &["list", "--cl", "4"],
     ];
     for arguments in calls {
-        let run = run(arguments, b"");
-        assert_eq!(run.status.code(), Some(2), "{arguments:?}");
-        assert!(run.stderr.starts_with(b"usage:"));
+        let (status, what) = said(&run(arguments, b""));
+        assert_eq!(status, Some(2), "{arguments:?}");
+        assert!(what.starts_with("usage:"));
     }
 }

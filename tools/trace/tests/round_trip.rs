@@ -2,9 +2,9 @@
 
 mod common;
 
-use common::{bytes, formats, round};
+use common::{bytes, formats, good, round};
 use reference::random::Random;
-use trace::{assemble, LONGEST};
+use trace::LONGEST;
 
 const DESL: u32 = 0xC0000;
 const SEED: u64 = 0x7ACE_0001;
@@ -97,6 +97,5 @@ fn as_long_as_checked_and_longer() {
             round(&bytes(&vec![word; count]), formats()[0]);
         }
     }
-    let longest = format!("DESL x {}\nat {LONGEST}", LONGEST);
-    assert!(assemble(longest.as_bytes()).is_ok());
+    good(&format!("DESL x {LONGEST}\nat {LONGEST}"));
 }

@@ -2,7 +2,11 @@
 
 #![allow(dead_code)]
 
-use trace::{assemble, list, Format};
+use std::ffi::OsStr;
+use std::io::{BufRead, Write};
+use std::path::{Path, PathBuf};
+use std::process::{Command, Output, Stdio};
+use trace::{assemble, list, Assembled, Failure, Format};
 
 /// Every BL with every organisation.
 pub fn formats() -> Vec<Format> {
@@ -22,11 +26,24 @@ pub fn listing(bytes: &[u8], format: Format) -> String {
     String::from_utf8(text).expect("a listing is text")
 }
 
+/// What a good text gives.
+pub fn good(text: &str) -> Assembled {
+    match assemble(text.as_bytes()) {
+        Ok(assembled) => assembled,
+        Err(failure) => panic!("{failure:?}\n{text}"),
+    }
+}
+
 /// The bytes of a good text.
 pub fn assembled(text: &str) -> Vec<u8> {
-    match assemble(text.as_bytes()) {
-        Ok(trace) => trace.bytes(),
-        Err(fault) => panic!("{fault}\n{text}"),
+    good(text).trace.bytes()
+}
+
+/// The messages on a text with wrong lines, as the program prints them of a file `t`.
+pub fn faults(text: impl BufRead) -> Vec<String> {
+    match assemble(text) {
+        Err(Failure::Wrong(faults)) => faults.messages("t", "wrong lines"),
+        other => panic!("no wrong line: {other:?}"),
     }
 }
 
@@ -36,4 +53,46 @@ pub fn round(bytes: &[u8], format: Format) {
     if assembled(&text) != bytes {
         panic!("{format:?}\n{bytes:02X?}\n{text}");
     }
+}
+
+/// The program, with pipes for its input and output.
+pub fn program(arguments: &[impl AsRef<OsStr>]) -> Command {
+    let mut program = Command::new(env!("CARGO_BIN_EXE_trace"));
+    program.args(arguments);
+    piped(program)
+}
+
+/// A command with pipes for its input and output.
+pub fn piped(mut command: Command) -> Command {
+    command
+        .stdin(Stdio::piped())
+        .stdout(Stdio::piped())
+        .stderr(Stdio::piped());
+    command
+}
+
+/// Runs the program on an input.
+pub fn run(arguments: &[impl AsRef<OsStr>], input: &[u8]) -> Output {
+    let mut child = program(arguments).spawn().expect("the program runs");
+    let mut pipe = child.stdin.take().expect("it has an input");
+    // A program that does not read its input may close it first.
+    let _ = pipe.write_all(input);
+    drop(pipe);
+    child.wait_with_output().expect("the program ends")
+}
+
+/// The status of a run and what it said.
+pub fn said(run: &Output) -> (Option<i32>, String) {
+    let said = String::from_utf8(run.stderr.clone()).expect("messages are text");
+    (run.status.code(), said)
+}
+
+/// A file of a test's own, with some content or none.
+pub fn file(name: impl AsRef<Path>, content: Option<&[u8]>) -> PathBuf {
+    let path = Path::new(env!("CARGO_TARGET_TMPDIR")).join(name);
+    let _ = std::fs::remove_file(&path);
+    if let Some(content) = content {
+        std::fs::write(&path, content).expect("the file can be written");
+    }
+    path
 }
