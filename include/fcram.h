@@ -10,7 +10,8 @@ extern "C" {
 #endif
 
 /*
- * Checks a trace on the sheet that the ten numbers make.
+ * Checks a trace on the sheet that the ten numbers make. docs/RULES.md has the range of each number (section 1), the rules by their
+ * numbers (section 4) and the refusals by theirs (section 6).
  *
  * trace: length bytes, four for each clock, the lowest byte of a word first. Any alignment will do. The caller guarantees that
  * trace points to length readable bytes (any pointer where length is 0), that nothing writes them during the call, and that length
