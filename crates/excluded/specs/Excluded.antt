@@ -1,0 +1,207 @@
+-- "What a reviewer will try, in order": what each wrong program would give, and that a contract, or demand 3, excludes it.
+use Prim.Native.Nat.{ℕ, zero, suc, _+_, _≤_, _<_}
+use mathlib.Core.Path.{_≡_}
+use mathlib.Core.Bool.{true, false}
+use mathlib.Core.List.{List, [], _∷_, _++_, map}
+use lib.ListN.{length, getD, replicate}
+use Rattle.config.specs.Outcome.{value}
+use Rattle.config.specs.Numbers.{refusalNumber, timingOutcome}
+use Rattle.config.specs.Configuration.{institute, derived, timingOf}
+use Rattle.config.specs.declared.Config.{Config}
+use Rattle.config.specs.declared.Timing.{Timing}
+use Rattle.config.specs.declared.refusal.Refusal.{Refusal}
+use Rattle.config.specs.declared.refusal.Refusal.the-variants.{ClockLimit, Field, QueueFull}
+use Rattle.reading.specs.Answers.{readOutcome}
+use Rattle.writing.specs.Answers.{writeOutcome}
+use Rattle.writing.specs.Writing.{requestFits}
+use Rattle.command.specs.declared.operation.Request.{Request}
+use Rattle.rules.specs.History.{nothing}
+use Rattle.rules.specs.Rules.{breachAt}
+use Rattle.rules.specs.Verdict.{Judgement, accepted, lead, judge, checkOf, checkBytesOf}
+use Rattle.protocol.specs.Cases.{At, words, startUpPairs, readAt}
+use Rattle.protocol.specs.Steps.{verdictOutcome, stepped, fresh, clockFits, stepOf}
+use Rattle.protocol.specs.declared.checker.Breach.{Breach}
+use Rattle.protocol.specs.declared.checker.Checker.{Checker}
+use Rattle.protocol.specs.declared.checker.Verdict.{Verdict}
+use Rattle.counts.specs.Counts.{countsOf, noCounts, countingOutcome, countingOf}
+use Rattle.counts.specs.declared.CommandCounts.{CommandCounts}
+use Rattle.counts.specs.declared.CountsAnswer.{CountsAnswer}
+use Rattle.controller.specs.States.{vacant}
+use Rattle.controller.specs.Steps.{held, callOutcome, offered, ticked}
+use Rattle.controller.specs.declared.Controller.{Controller}
+use Rattle.controller.specs.declared.CallAnswer.{CallAnswer}
+use Rattle.model.specs.Cases.{bank0Read}
+use Rattle.model.specs.Runs.{Call, offer, tick, Accepted, Run, prescribed, pairsOf, requestsOf, starts, firstWords, latestStart}
+use Rattle.model.specs.Demand3.{Holds}
+use Rattle.borrowed.specs.Excluded.{Never}
+use Rattle.cursor.specs.Walk.{progressOutcome, moved, MovePromised}
+use Rattle.cursor.specs.declared.Progress.{Progress}
+
+-- Two sentences of demand 3, each by itself, since it rejects a controller whatever the others say: the clock bound, and the requests in order
+-- and field for field.
+abbrev pub Prompt : Timing → List Call → Run → Type 0
+Prompt t calls r =
+    (older newer : List Accepted) (a : Accepted) → r .accepted ≡ older ++ a ∷ newer → latestStart t a < length (r .words)
+    → let firsts = firstWords (r .words) (prescribed t calls .course .opened) in
+    (length older < length firsts) × (getD firsts (length older) 0 ≤ latestStart t a)
+
+-- the requests that were put out, and those that were accepted
+abbrev pub putOut : Timing → Run → List Request
+putOut t r = requestsOf t (pairsOf (r .words))
+
+abbrev pub taken : Run → List Request
+taken r = map (λ a. a .request) (r .accepted)
+
+abbrev pub InOrder : Timing → Run → Type 0
+InOrder t r = putOut t r ++ held (r .controller) ≡ taken r
+
+-- On sheet E: words of start-up and DESL alone, and the run that gives them with a bank 0 read accepted before the first tick.
+abbrev pub idleWords : ℕ → List ℕ
+idleWords desls = words 0 startUpPairs desls
+
+abbrev pub idleRun : ℕ → Controller → Run
+idleRun desls s = record { words = idleWords desls; accepted = record { request = bank0Read; ticks = 0; ahead = 0 } ∷ []; controller = s }
+
+-- On sheet E: reads of bank 0, each of the next row; and words that put out the first of sixteen again and again.
+abbrev pub readsFrom : ℕ → ℕ → List Request
+readsFrom row zero = []
+readsFrom row (suc n) = record { write = false; bank = 0; row = row; column = 0; lower = 0; upper = 0 } ∷ readsFrom (row + 1) n
+
+abbrev pub firstAgain : ℕ → ℕ → List At
+firstAgain clock zero = []
+firstAgain clock (suc n) = readAt clock 0 ∷ firstAgain (clock + 5) n
+
+abbrev pub fakedWords : List ℕ
+fakedWords = words 0 (startUpPairs ++ firstAgain 201 16) 0
+
+abbrev pub fakedRun : List Accepted → Controller → Run
+fakedRun all s = record { words = fakedWords; accepted = all; controller = s }
+
+pub record Controllers : Type 0 where
+  -- both are of demand 3
+  pub has-prompt : (t : Timing) (calls : List Call) (r : Run) → Holds t calls r → Prompt t calls r
+  pub has-order : (t : Timing) (calls : List Call) (r : Run) → Holds t calls r → InOrder t r
+  -- "First a controller that plays only start-up and DESL: the clock bound of demand 3 rejects it." The read's bound is clock 229. A pair
+  -- that opens there would be in time, so the words are rejected from the next clock on: whatever the calls were and the controller holds.
+  pub only-start-up : (desls : ℕ) (calls : List Call) (s : Controller) → 231 ≤ length (idleWords desls)
+      → Prompt (derived institute) calls (idleRun desls s) → ⊥
+  -- so with any timing and any words that have no read or write pair
+  pub nothing-out : (t : Timing) (calls : List Call) (r : Run) (a : Accepted) (newer : List Accepted) → r .accepted ≡ a ∷ newer
+      → starts (pairsOf (r .words)) ≡ [] → latestStart t a + 1 < length (r .words) → Prompt t calls r → ⊥
+  -- "Then one that takes sixteen requests, puts out the first and fakes the rest: rejected by field-for-field equality." The words break no
+  -- rule.
+  pub faked-rest : (all : List Accepted) (s : Controller) → taken (fakedRun all s) ≡ readsFrom 0 16
+      → InOrder (derived institute) (fakedRun all s) → ⊥
+  pub faked-sound : judge (derived institute) fakedWords ≡ accepted
+  -- so with any timing, if the n-th pair is read to another request than the n-th that was accepted, in whatever field; or if one is lost
+  pub another-request : (t : Timing) (r : Run) (n : ℕ) → n < length (putOut t r)
+      → (getD (putOut t r) n vacant ≡ getD (taken r) n vacant → ⊥) → InOrder t r → ⊥
+  pub request-lost : (t : Timing) (r : Run) → length (putOut t r) + length (held (r .controller)) < length (taken r) → InOrder t r → ⊥
+  -- "An offer that says 27 with a place open, or 26 to all, or a tick that says 24 before its clock is reached": of any state, and of either
+  -- form of the call
+  pub offer-27 : (s after : Controller) (q : Request) → s .count < 16 → Never s (offer q) (CallAnswer.Refused QueueFull) 0 after
+  pub offer-26 : (s after : Controller) (q : Request) (t : Timing) → timingOf (s .config) ≡ value t → requestFits t q ≡ true
+      → Never s (offer q) (CallAnswer.Refused Field) 0 after
+  pub tick-24 : (s after : Controller) (word : ℕ) → s .clock < 16777216 → Never s tick (CallAnswer.Refused ClockLimit) word after
+  -- "their conditions above hold both ways": nor is a call accepted where its condition holds
+  pub offer-past-27 : (s after : Controller) (q : Request) → 16 ≤ s .count → Never s (offer q) CallAnswer.Accepted 0 after
+  pub offer-past-26 : (s after : Controller) (q : Request) (t : Timing) → timingOf (s .config) ≡ value t → requestFits t q ≡ false
+      → Never s (offer q) CallAnswer.Accepted 0 after
+  pub tick-past-24 : (s after : Controller) (word : ℕ) → 16777216 ≤ s .clock → Never s tick CallAnswer.Accepted word after
+
+-- no contract lets an examiner answer so: the check of words, the check of bytes, and a step that leaves the state `after`
+abbrev pub NoCheck : Config → List ℕ → Verdict → Type 0
+NoCheck c ws v = verdictOutcome v ≡ checkOf c ws → ⊥
+
+abbrev pub NoCheckBytes : Config → List ℕ → Verdict → Type 0
+NoCheckBytes c bytes v = verdictOutcome v ≡ checkBytesOf c bytes → ⊥
+
+abbrev pub NoStep : Checker → ℕ → Verdict → Checker → Type 0
+NoStep s w v after = stepped (record { verdict = v; checker = after }) ≡ stepOf s w → ⊥
+
+-- A check that judges every word by its first state accepts RDA and an MRS with A7 high, here as words and as bytes: breach 4 at clock 1.
+abbrev pub byFirstState : Timing → List ℕ → Judgement
+byFirstState t [] = accepted
+byFirstState t (w ∷ ws) = lead (breachAt t nothing w) 0 (byFirstState t ws)
+
+abbrev pub wrongMode : List ℕ
+wrongMode = 0xA0000 ∷ 0x80080 ∷ []
+
+abbrev pub wrongModeBytes : List ℕ
+wrongModeBytes = 0x00 ∷ 0x00 ∷ 0x0A ∷ 0x00 ∷ 0x80 ∷ 0x00 ∷ 0x08 ∷ 0x00 ∷ []
+
+pub record Examiners : Type 0 where
+  -- "An examiner that always accepts": word 0 has PD low, so no trace that begins with it passes, and it passes at no state.
+  pub check-accepts : (c : Config) (ws : List ℕ) → NoCheck c (0 ∷ ws) Verdict.Accepted
+  pub bytes-accept : (c : Config) (bytes : List ℕ) → NoCheckBytes c (0 ∷ 0 ∷ 0 ∷ 0 ∷ bytes) Verdict.Accepted
+  pub step-accepts : (s after : Checker) → NoStep s 0 Verdict.Accepted after
+  -- "always breaches": DESL alone, none or any number of them, is in no breach.
+  pub check-breaches : (c : Config) (n : ℕ) (b : Breach) → NoCheck c (replicate n 0xC0000) (Verdict.InBreach b)
+  pub bytes-breach : (c : Config) (b : Breach) → NoCheckBytes c [] (Verdict.InBreach b)
+  pub step-breaches : (c : Config) (b : Breach) (after : Checker) → NoStep (fresh c) 0xC0000 (Verdict.InBreach b) after
+  -- "or stays at its first state: demand 2 rejects each": at a word that passes the clock goes one on, and a breach changes the state too.
+  pub step-stays : (s after : Checker) (w : ℕ) → (after .clock ≡ s .clock + 1 → ⊥) → NoStep s w Verdict.Accepted after
+  pub step-stays-in-breach : (s : Checker) (w : ℕ) (b : Breach) → NoStep s w (Verdict.InBreach b) s
+  pub check-stays : (c : Config) (t : Timing) (v : Verdict) → verdictOutcome v ≡ value (byFirstState t wrongMode) → NoCheck c wrongMode v
+  pub bytes-stay : (c : Config) (t : Timing) (v : Verdict) → verdictOutcome v ≡ value (byFirstState t wrongMode)
+      → NoCheckBytes c wrongModeBytes v
+
+-- no contract lets the tally answer so
+abbrev pub NoTally : List ℕ → CountsAnswer → Type 0
+NoTally ws a = countingOutcome a ≡ countingOf ws → ⊥
+
+pub record Tallies : Type 0 where
+  -- "A tally with invented counts: it equals the counts of the definition." Whichever of the counts differs, on any words; a refused one has
+  -- none.
+  pub invented : (ws : List ℕ) (c : CommandCounts) (count : CommandCounts → ℕ) → (count c ≡ count (countsOf ws) → ⊥)
+      → NoTally ws (CountsAnswer.Counted c)
+  pub invented-refused : (ws : List ℕ) (why : Refusal) (c : CommandCounts) (count : CommandCounts → ℕ) → (count c ≡ count noCounts → ⊥)
+      → NoTally ws (CountsAnswer.Refused why c)
+  -- so of one that counts nothing, where a read pair stands
+  pub read-not-counted : NoTally (0xA0000 ∷ 0xC0000 ∷ []) (CountsAnswer.Counted noCounts)
+
+-- no contract lets an advance over ws answer so and leave the checker `after`: not those of `next_word` and `advance_through`, and not that of
+-- `advance`, which promises the same of its checker
+abbrev pub NoMove : Checker → List ℕ → Progress → Checker → Type 0
+NoMove s ws p after = MovePromised s ws (record { progress = p; checker = after }) → ⊥
+
+pub record Walks : Type 0 where
+  -- "A walk that says end before its words run out": of any state. Nor does it say anything else where they have.
+  pub end-early : (s after : Checker) (ws : List ℕ) → s .clock < length ws → NoMove s ws Progress.End after
+  pub end-unsaid : (s after : Checker) (ws : List ℕ) (t : Timing) (p : Progress) → length ws ≤ s .clock → timingOf (s .config) ≡ value t
+      → clockFits (s .clock) (s .first) (s .stamps) ≡ true → (p ≡ Progress.End → ⊥) → NoMove s ws p after
+  -- "its place is fixed": one on after a word that passed, and otherwise where it was
+  pub passed-place : (s after : Checker) (ws : List ℕ) → (after .clock ≡ s .clock + 1 → ⊥) → NoMove s ws Progress.Passed after
+  pub other-place : (s after : Checker) (ws : List ℕ) (p : Progress) → (p ≡ Progress.Passed → ⊥) → (after .clock ≡ s .clock → ⊥)
+      → NoMove s ws p after
+
+-- "Then each published call is inspected: its contract gives the complete result". The contracts speak of an answer in the paper's terms.
+-- Nothing is lost by that: two answers that are the same there are the same.
+abbrev pub Injective : {A B : Type 0} → (A → B) → Type 0
+Injective {A} f = (x y : A) → f x ≡ f y → x ≡ y
+
+pub record Answers : Type 0 where
+  pub refusal : Injective refusalNumber
+  -- `Config::timing`, `read_pair`, `write_pair`
+  pub timing : Injective timingOutcome
+  pub read : Injective readOutcome
+  pub write : Injective writeOutcome
+  -- `check`, `check_bytes`; with the state, `Checker::step`
+  pub verdict : Injective verdictOutcome
+  pub step : Injective stepped
+  -- `count_commands`
+  pub counting : Injective countingOutcome
+  -- the calls on a borrowed controller; with the state, `Controller::offer` and `Controller::tick`
+  pub call : Injective callOutcome
+  pub offer : Injective offered
+  pub tick : Injective ticked
+  -- `advance`; with the state, `next_word` and `advance_through`
+  pub progress : Injective progressOutcome
+  pub move : Injective moved
+
+pub record Excluded : Type 0 where
+  pub controllers : Controllers
+  pub examiners : Examiners
+  pub tallies : Tallies
+  pub walks : Walks
+  pub answers : Answers
