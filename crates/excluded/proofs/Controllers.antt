@@ -24,7 +24,8 @@ use Rattle.controller.specs.declared.CallAnswer.{CallAnswer}
 use Rattle.model.specs.Runs.{Call, offer, tick, Accepted, Run, prescribed, pairsOf, starts, accessOpen, latestStart}
 use Rattle.borrowed.specs.EitherForm.{Form, byValue, borrowed, Promised}
 use Rattle.borrowed.specs.Excluded.{Never}
-use Rattle.excluded.specs.Excluded.{Prompt, putOut, taken, InOrder, idleRun, fakedRun, Controllers}
+use Rattle.model.specs.Demand3.{putOut, taken, InOrder, Prompt}
+use Rattle.excluded.specs.Excluded.{idleRun, fakedRun, Controllers}
 use Rattle.excluded.proofs.Refusals.{value-not, require-not, behind-config}
 
 nothing-out : (t : Timing) (calls : List Call) (r : Run) (a : Accepted) (newer : List Accepted) → r .accepted ≡ a ∷ newer
@@ -114,8 +115,6 @@ no-tick s after word a h form p = h (sym (tick-is s) ∙ sym (outcome form p))
 pub controllers : Controllers
 controllers =
     record {
-      has-prompt = λ t calls r h. h .prompt;
-      has-order = λ t calls r h. h .in-order;
       only-start-up =
           λ desls calls s late.
           nothing-out (derived institute) calls (idleRun desls s) _ [] refl (ap starts (desls-close desls 34 _)) (omega arith);

@@ -2,7 +2,7 @@
 use Prim.Native.Nat.{ℕ, zero, suc, _+_, _≤_, _<_}
 use mathlib.Core.Path.{_≡_}
 use mathlib.Core.Bool.{true, false}
-use mathlib.Core.List.{List, [], _∷_, _++_, map}
+use mathlib.Core.List.{List, [], _∷_, _++_}
 use lib.ListN.{length, getD, replicate}
 use Rattle.config.specs.Outcome.{value}
 use Rattle.config.specs.Numbers.{refusalNumber, timingOutcome}
@@ -31,29 +31,11 @@ use Rattle.controller.specs.Steps.{held, callOutcome, offered, ticked}
 use Rattle.controller.specs.declared.Controller.{Controller}
 use Rattle.controller.specs.declared.CallAnswer.{CallAnswer}
 use Rattle.model.specs.Cases.{bank0Read}
-use Rattle.model.specs.Runs.{Call, offer, tick, Accepted, Run, prescribed, pairsOf, requestsOf, starts, firstWords, latestStart}
-use Rattle.model.specs.Demand3.{Holds}
+use Rattle.model.specs.Runs.{Call, offer, tick, Accepted, Run, pairsOf, starts, latestStart}
+use Rattle.model.specs.Demand3.{putOut, taken, InOrder, Prompt}
 use Rattle.borrowed.specs.Excluded.{Never}
 use Rattle.cursor.specs.Walk.{progressOutcome, moved, MovePromised}
 use Rattle.cursor.specs.declared.Progress.{Progress}
-
--- Two sentences of demand 3, each by itself, since it rejects a controller whatever the others say: the clock bound, and the requests in order
--- and field for field.
-abbrev pub Prompt : Timing → List Call → Run → Type 0
-Prompt t calls r =
-    (older newer : List Accepted) (a : Accepted) → r .accepted ≡ older ++ a ∷ newer → latestStart t a < length (r .words)
-    → let firsts = firstWords (r .words) (prescribed t calls .course .opened) in
-    (length older < length firsts) × (getD firsts (length older) 0 ≤ latestStart t a)
-
--- the requests that were put out, and those that were accepted
-abbrev pub putOut : Timing → Run → List Request
-putOut t r = requestsOf t (pairsOf (r .words))
-
-abbrev pub taken : Run → List Request
-taken r = map (λ a. a .request) (r .accepted)
-
-abbrev pub InOrder : Timing → Run → Type 0
-InOrder t r = putOut t r ++ held (r .controller) ≡ taken r
 
 -- On sheet E: words of start-up and DESL alone, and the run that gives them with a bank 0 read accepted before the first tick.
 abbrev pub idleWords : ℕ → List ℕ
@@ -77,10 +59,8 @@ fakedWords = words 0 (startUpPairs ++ firstAgain 201 16) 0
 abbrev pub fakedRun : List Accepted → Controller → Run
 fakedRun all s = record { words = fakedWords; accepted = all; controller = s }
 
+-- By one sentence of demand 3 each, whatever the others say.
 pub record Controllers : Type 0 where
-  -- both are of demand 3
-  pub has-prompt : (t : Timing) (calls : List Call) (r : Run) → Holds t calls r → Prompt t calls r
-  pub has-order : (t : Timing) (calls : List Call) (r : Run) → Holds t calls r → InOrder t r
   -- "First a controller that plays only start-up and DESL: the clock bound of demand 3 rejects it." The read's bound is clock 229. A pair
   -- that opens there would be in time, so the words are rejected from the next clock on: whatever the calls were and the controller holds.
   pub only-start-up : (desls : ℕ) (calls : List Call) (s : Controller) → 231 ≤ length (idleWords desls)

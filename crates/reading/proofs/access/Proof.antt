@@ -37,7 +37,8 @@ kept-requires-2 : tie.Need-kept-requires-2
 kept-requires-2 c κs = search needs
 
 returns : tie.Need-returns
-returns c = cc
+returns c = rw
+    (c .kept2 .ensures .0, c .before .kept .ensures .0, c .before .before .column .ensures, c .before .before .before .lane2 .ensures, c .before .before .before .before .high4 .ensures, c .before .before .before .before .before .high3 .ensures, c .before .before .before .before .before .before .lane .ensures, c .before .before .before .before .before .before .before .high2 .ensures, c .before .before .before .before .before .before .before .before .high .ensures, c .before .before .before .before .before .before .before .before .before .bl .ensures, c .before .before .before .before .before .before .before .before .before .before .organisation .ensures)
 
 pub access-spec : {M : Type 1} → statement M
 access-spec =

@@ -28,7 +28,8 @@ organisation-requires : tie.Need-organisation-requires
 organisation-requires c κs = search needs
 
 returns : tie.Need-returns
-returns c = cc
+returns c = rw
+    (c .organisation .ensures, c .before .bl .ensures, c .before .before .high6 .ensures, c .before .before .before .high5 .ensures, c .before .before .before .before .high4 .ensures, c .before .before .before .before .before .high3 .ensures, c .before .before .before .before .before .before .high2 .ensures, c .before .before .before .before .before .before .before .high .ensures)
 
 pub lane-reserved-spec : {M : Type 1} → statement M
 lane-reserved-spec =

@@ -16,7 +16,7 @@ high-requires-3 : tie.Need-high-requires-3
 high-requires-3 c κs = search needs
 
 returns : tie.Need-returns
-returns c = cc
+returns c = rw (c .high3 .ensures, c .before .high2 .ensures, c .before .before .register-fits .ensures, c .before .before .before .high .ensures)
 
 pub mode-wrong-spec : {M : Type 1} → statement M
 mode-wrong-spec =

@@ -19,7 +19,7 @@ high-requires-3 : tie.Need-high-requires-3
 high-requires-3 c κs = search needs
 
 returns : tie.Need-returns
-returns c = cc
+returns c = rw (c .high3 .ensures, c .before .high2 .ensures, c .before .before .high .ensures, c .before .before .before .lane-reserved .ensures, c .before .before .before .before .mode-wrong .ensures)
 
 pub sound-pair-spec : {M : Type 1} → statement M
 sound-pair-spec =
