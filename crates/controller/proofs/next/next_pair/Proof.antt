@@ -1,38 +1,98 @@
 -- One case for each test. Assumes nothing.
+use Prim.Native.Nat.{_+_}
+use mathlib.Core.Path.{_≡_}
+use mathlib.Core.Bool.{Bool, true, false, _||_}
+use lib.Dec.{eqb, leb}
+use lib.ListN.{getD}
+use native.Mathlib.Omega.{arith}
 use borrow.Author.Tests.{eq-eqb, ne-eqb}
 use borrow.Author.Needs.{needs}
 use Rattle.controller.proofs.next.next_pair.Statement.{statement}
 use Rattle.controller.proofs.next.next_pair.Tie as tie
 
+-- the start, from each of the first two tests and from the last two
+abbrev at-1 : tie.After-struct-known → tie.Start
+at-1 c = c .before .before .before .before .before
+
+abbrev at-2 : tie.After-struct-known2 → tie.Start
+at-2 c = at-1 (c .before .before)
+
+abbrev at-4 : tie.Else3 → tie.Start
+at-4 c = at-2 (c .before .before)
+
+-- the contract's test for a refresh
+abbrev due : tie.Start → Bool
+due s =
+    let a = s .args in
+    eqb (getD (a .stamps .refs) 1 0) 0
+    || leb (getD (a .stamps .refs) 0 0 + a .timing .refi) (a .clock + a .timing .rc)
+
+-- what each test tells
+no-extended : (c : tie.Then1) → eqb (at-1 (c .before) .args .stamps .extended) 0 ≡ true
+no-extended c = eq-eqb (at-1 (c .before) .args .stamps .extended) 0 (omega arith)
+
+extended : (c : tie.Else1) → eqb (at-1 (c .before) .args .stamps .extended) 0 ≡ false
+extended c = ne-eqb (at-1 (c .before) .args .stamps .extended) 0 (c .if1 .left)
+
+no-regular : (c : tie.Then2) → eqb (at-2 (c .before) .args .stamps .regular) 0 ≡ true
+no-regular c = eq-eqb (at-2 (c .before) .args .stamps .regular) 0 (omega arith)
+
+regular : (c : tie.Else2) → eqb (at-2 (c .before) .args .stamps .regular) 0 ≡ false
+regular c = ne-eqb (at-2 (c .before) .args .stamps .regular) 0 (c .if2 .left)
+
+not-due : (c : tie.Else3) → due (at-4 c) ≡ false
+not-due c = cc
+
+is-due : (c : tie.Then3) → due (at-2 (c .before .before)) ≡ true
+is-due c = cc
+
+none-waits : (c : tie.Then4) → eqb (at-4 (c .before) .args .count) 0 ≡ true
+none-waits c = eq-eqb (at-4 (c .before) .args .count) 0 (omega arith)
+
+one-waits : (c : tie.Else4) → eqb (at-4 (c .before) .args .count) 0 ≡ false
+one-waits c = ne-eqb (at-4 (c .before) .args .count) 0 (c .if4 .left)
+
 array-read-refresh-due : tie.Need-array-read-refresh-due
 array-read-refresh-due c = search needs
+
+refi-requires : tie.Need-refi-requires
+refi-requires c κs = search needs
+
+rc-requires : tie.Need-rc-requires
+rc-requires c κs = search needs
 
 refresh-due-requires : tie.Need-refresh-due-requires
 refresh-due-requires c κs = search needs
 
 returns : tie.Need-returns
-returns c = rw (eq-eqb _ 0 (c .if1 .taken))
+returns c = rw (no-extended c)
 
 returns-2 : tie.Need-returns-2
-returns-2 c = rw (ne-eqb _ 0 (c .before .before .if1 .left), eq-eqb _ 0 (c .if2 .taken))
+returns-2 c = rw (extended (c .before .before), no-regular c)
 
 array-read-if3 : tie.Need-array-read-if3
 array-read-if3 c = search needs
 
 returns-3 : tie.Need-returns-3
-returns-3 c = rw (ne-eqb _ 0 (c .before .before .before .if1 .left), ne-eqb _ 0 (c .before .if2 .left), ← c .before .before .before .before .before .refresh-due .ensures, c .if3 .taken)
+returns-3 c = rw (extended (c .before .before .before), regular (c .before), is-due c)
 
 returns-4 : tie.Need-returns-4
-returns-4 c = rw (ne-eqb _ 0 (c .before .before .before .before .if1 .left), ne-eqb _ 0 (c .before .before .if2 .left), ← c .before .before .before .before .before .before .refresh-due .ensures, c .before .if3 .left, eq-eqb _ 0 (c .if4 .taken))
+returns-4 c =
+    let e = c .before .before in
+    rw (extended (e .before .before), regular e, not-due (c .before), none-waits c)
 
 returns-5 : tie.Need-returns-5
-returns-5 c = rw (ne-eqb _ 0 (c .before .before .before .before .if1 .left), ne-eqb _ 0 (c .before .before .if2 .left), ← c .before .before .before .before .before .before .refresh-due .ensures, c .before .if3 .left, ne-eqb _ 0 (c .if4 .left))
+returns-5 c =
+    let e = c .before .before in
+    rw (extended (e .before .before), regular e, not-due (c .before), one-waits c)
 
 pub next-pair-spec : {M : Type 1} → statement M
 next-pair-spec =
     tie.close
     (tie.spec
     array-read-refresh-due
+    refi-requires
+    rc-requires
     refresh-due-requires
     returns
     returns-2

@@ -1,8 +1,38 @@
 -- Each refusal by the first test that fails. Assumes nothing.
+use Prim.Native.Nat.{ℕ}
+use mathlib.Core.Path.{_≡_, sym, _∙_}
+use mathlib.Core.Bool.{true, false}
+use lib.Dec.{ltb}
+use native.Mathlib.Omega.{arith}
 use borrow.Author.Tests.{not-true, not-false, lt-ltb, le-ltb}
 use borrow.Author.Needs.{needs}
+use Rattle.writing.specs.Writing.{requestFits}
+use Rattle.controller.specs.Steps.{stateFits}
 use Rattle.controller.proofs.offering.offer_by.Statement.{statement}
 use Rattle.controller.proofs.offering.offer_by.Tie as tie
+
+-- what each test tells
+unfit : (c : tie.Then1) → let a = c .before .before .args in stateFits (a .timing) (a .controller) ≡ false
+unfit c = sym (c .before .state-fits .ensures) ∙ not-true (c .before .state-fits .result) (c .if1 .taken)
+
+fits : (c : tie.Else1) → let a = c .before .before .args in stateFits (a .timing) (a .controller) ≡ true
+fits c = sym (c .before .state-fits .ensures) ∙ not-false (c .before .state-fits .result) (c .if1 .left)
+
+out-of-range : (c : tie.Then2) → let a = c .before .before .before .before .args in requestFits (a .timing) (a .request) ≡ false
+out-of-range c = sym (c .before .request-fits .ensures) ∙ not-true (c .before .request-fits .result) (c .if2 .taken)
+
+in-range : (c : tie.Else2) → let a = c .before .before .before .before .args in requestFits (a .timing) (a .request) ≡ true
+in-range c = sym (c .before .request-fits .ensures) ∙ not-false (c .before .request-fits .result) (c .if2 .left)
+
+-- how many wait
+abbrev count : tie.Else2 → ℕ
+count c = c .before .before .before .before .args .controller .count
+
+room : (c : tie.Then3) → ltb (count (c .before .before)) 16 ≡ true
+room c = lt-ltb (count (c .before .before)) 16 (omega arith)
+
+full : (c : tie.Else3) → ltb (count (c .before .before)) 16 ≡ false
+full c = le-ltb (count (c .before .before)) 16 (omega arith)
 
 state-fits-requires : tie.Need-state-fits-requires
 state-fits-requires c κs = search needs
@@ -11,7 +41,7 @@ not-offered-requires : tie.Need-not-offered-requires
 not-offered-requires c κs = search needs
 
 returns : tie.Need-returns
-returns c = rw (c .not-offered .ensures, ← c .before .before .state-fits .ensures, not-true (c .before .before .state-fits .result) (c .before .if1 .taken))
+returns c = rw (c .not-offered .ensures, unfit (c .before))
 
 request-fits-requires : tie.Need-request-fits-requires
 request-fits-requires c κs = search needs
@@ -20,8 +50,7 @@ not-offered-requires-2 : tie.Need-not-offered-requires-2
 not-offered-requires-2 c κs = search needs
 
 returns-2 : tie.Need-returns-2
-returns-2 c = rw
-    (c .not-offered2 .ensures, ← c .before .before .before .before .state-fits .ensures, not-false (c .before .before .before .before .state-fits .result) (c .before .before .before .if1 .left), ← c .before .before .request-fits .ensures, not-true (c .before .before .request-fits .result) (c .before .if2 .taken))
+returns-2 c = rw (c .not-offered2 .ensures, fits (c .before .before .before), out-of-range (c .before))
 
 joined-requires : tie.Need-joined-requires
 joined-requires c κs = search needs
@@ -30,12 +59,14 @@ not-offered-requires-3 : tie.Need-not-offered-requires-3
 not-offered-requires-3 c κs = search needs
 
 returns-3 : tie.Need-returns-3
-returns-3 c = rw
-    (c .joined .ensures, ← c .before .before .before .before .before .before .state-fits .ensures, not-false (c .before .before .before .before .before .before .state-fits .result) (c .before .before .before .before .before .if1 .left), ← c .before .before .before .before .request-fits .ensures, not-false (c .before .before .before .before .request-fits .result) (c .before .before .before .if2 .left), lt-ltb _ _ (c .before .if3 .taken))
+returns-3 c =
+    let passed = c .before .before .before in
+    rw (c .joined .ensures, fits (passed .before .before), in-range passed, room (c .before))
 
 returns-4 : tie.Need-returns-4
-returns-4 c = rw
-    (c .not-offered3 .ensures, ← c .before .before .before .before .before .before .state-fits .ensures, not-false (c .before .before .before .before .before .before .state-fits .result) (c .before .before .before .before .before .if1 .left), ← c .before .before .before .before .request-fits .ensures, not-false (c .before .before .before .before .request-fits .result) (c .before .before .before .if2 .left), le-ltb _ _ (c .before .if3 .left))
+returns-4 c =
+    let passed = c .before .before .before in
+    rw (c .not-offered3 .ensures, fits (passed .before .before), in-range passed, full (c .before))
 
 pub offer-by-spec : {M : Type 1} → statement M
 offer-by-spec =
