@@ -1,11 +1,12 @@
 //! The text that the replay program must write for a script, by this implementation.
 
+use crate::both::Both;
 use crate::checker::{Checker, Step};
 use crate::controller::Controller;
 use crate::counts::counts;
 use crate::judge::{check, Verdict};
 use crate::pair::{self, Operation, Request};
-use crate::past::{Both, Past};
+use crate::past::Past;
 use crate::script::{bytes, Call, PairNumbers};
 use crate::sheet::{Sheet, SHEET_E};
 use crate::walk::{Move, Walk};

@@ -2,12 +2,14 @@
 //! It shares no code with them: it is written from the papers, plainly, and judges a trace by
 //! scanning its whole history.
 
+pub mod both;
 pub mod checker;
 pub mod controller;
 pub mod counts;
 pub mod coverage;
 pub mod expected;
 pub mod hand_in;
+pub mod history;
 pub mod judge;
 pub mod pair;
 pub mod past;

@@ -3,7 +3,8 @@
 
 use reference::checker::{Checker, Step};
 use reference::controller::Controller;
-use reference::judge::{judge, History, Verdict};
+use reference::history::History;
+use reference::judge::{judge, Verdict};
 use reference::pair::{self, Kind, Operation};
 use reference::past::Past;
 use reference::random::Random;

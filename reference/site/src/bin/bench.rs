@@ -1,9 +1,9 @@
 //! Times the archive's check beside a plain one-pass checker in Rust, in the same run, on three
 //! valid traces. A measurement, not a test.
 
+use reference::both::Both;
 use reference::coverage::Coverage;
 use reference::hand_in::site_number;
-use reference::past::Both;
 use reference::random::Random;
 use reference::script::bytes;
 use reference::sheet::{Sheet, SHEET_E};
