@@ -9,7 +9,8 @@ use crate::summary::Summary;
 const PLAIN_PAIRS: usize = 4_000;
 
 /// The whole history and its summary side by side: each answer is taken from both and must be the
-/// same. A very long history is dropped, since scanning it takes quadratic time.
+/// same. A history of more pairs is dropped, since scanning it takes quadratic time; from then on the
+/// summary answers alone.
 #[derive(Clone)]
 pub struct Both {
     plain: Option<History>,
@@ -17,6 +18,16 @@ pub struct Both {
 }
 
 impl Both {
+    /// A summary that no words made, and so without a history.
+    pub fn without_history(quick: Summary) -> Both {
+        Both { plain: None, quick }
+    }
+
+    /// The summary.
+    pub fn summary(&self) -> &Summary {
+        &self.quick
+    }
+
     /// The summary's answer, compared with the history's while that is kept.
     fn same<T: PartialEq + std::fmt::Debug>(
         &self,
@@ -75,5 +86,9 @@ impl Past for Both {
 
     fn last_ref(&self) -> Option<u32> {
         self.same(|p| p.last_ref(), |q| q.last_ref())
+    }
+
+    fn late_events(&self) -> Vec<&'static str> {
+        self.same(|p| p.late_events(), |q| q.late_events())
     }
 }

@@ -212,4 +212,9 @@ impl Past for History {
     fn last_ref(&self) -> Option<u32> {
         self.ref_words().next_back()
     }
+
+    /// None: every pair is of words pushed, at clocks before.
+    fn late_events(&self) -> Vec<&'static str> {
+        Vec::new()
+    }
 }

@@ -22,6 +22,8 @@ pub trait Past: Clone {
     fn second_ref_stands(&self) -> bool;
     /// The clock of the last REF word before.
     fn last_ref(&self) -> Option<u32>;
+    /// The names of the events remembered that do not stand before the clock.
+    fn late_events(&self) -> Vec<&'static str>;
 
     /// Whether the two words of a pair, put out from this clock on, would break nothing.
     fn admits(&self, sheet: &Sheet, (first, second): (u32, u32)) -> bool {
