@@ -117,10 +117,12 @@ impl<P: Past> Controller<P> {
         (self.queue.count > 0).then_some(Opened::Oldest)
     }
 
-    /// Whether the last REF word is so long before that a refresh comes ahead of requests.
+    /// Whether the last REF word is so long before that a refresh comes ahead of requests. A state
+    /// that names a second last REF word and no last one contradicts itself, and the paper does not
+    /// say what is due then: it is taken as a last REF word at clock 0, which its number says.
     fn refresh_is_due(&self) -> bool {
-        let due = |r| self.past.clock() >= r + self.sheet.d() - self.sheet.rc();
-        self.past.last_ref().is_some_and(due)
+        let r = self.past.last_ref().unwrap_or(0);
+        self.past.clock() >= r + self.sheet.d() - self.sheet.rc()
     }
 
     /// The two words of a pair; none if it is of no request, or out of the sheet's ranges.

@@ -10,7 +10,7 @@ use crate::pair::{self, Operation, Request};
 use crate::past::Past;
 use crate::script::{bytes, Call, PairNumbers};
 use crate::sheet::{Sheet, SHEET_E};
-use crate::state;
+use crate::state::{self, CheckerNumbers, ControllerNumbers};
 use crate::walk::Walk;
 use crate::word::DESL;
 use std::fmt::Write;
@@ -72,19 +72,25 @@ impl Player {
             Call::Waiting => self.waiting(),
             Call::Walk(words) => self.walk(words),
             Call::Advance(words) => self.advance(words),
-            Call::PutChecker(numbers) => {
-                self.checker = state::checker(numbers);
-                String::new()
-            }
-            Call::PutController(numbers) => {
-                self.controller = state::controller(numbers).expect("a kind of open pair");
-                String::new()
-            }
+            Call::PutChecker(numbers) => self.put_checker(numbers),
+            Call::PutController(numbers) => self.put_controller(numbers),
             Call::ShowChecker => numbered("checker", &state::checker_numbers(&self.checker)),
             Call::ShowController => {
                 numbered("controller", &state::controller_numbers(&self.controller))
             }
         }
+    }
+
+    /// Puts the checker into a state, which writes nothing.
+    fn put_checker(&mut self, numbers: &CheckerNumbers) -> String {
+        self.checker = state::checker(numbers);
+        String::new()
+    }
+
+    /// Puts the controller into a state, which writes nothing.
+    fn put_controller(&mut self, numbers: &ControllerNumbers) -> String {
+        self.controller = state::controller(numbers).expect("a kind of open pair");
+        String::new()
     }
 
     /// The whole check on the configuration.
@@ -160,11 +166,11 @@ impl Player {
         format!("tick {number} {word}\n")
     }
 
-    /// The requests waiting.
+    /// The requests waiting; of a count above sixteen, those that have a place.
     fn waiting(&self) -> String {
-        let waiting = self.controller.queue.waiting();
-        let mut text = format!("waiting {}\n", waiting.len());
-        for request in waiting {
+        let queue = &self.controller.queue;
+        let mut text = format!("waiting {}\n", queue.count);
+        for request in queue.waiting() {
             text += &numbered("request", &request.numbers());
         }
         text

@@ -111,6 +111,21 @@ impl Request {
         let fields = Request::FIELDS.into_iter().zip(fits);
         fields.filter(|(_, fits)| !fits).map(|(name, _)| name)
     }
+
+    /// The names of the fields that are at the end of their range.
+    pub fn greatest(&self, sheet: &Sheet) -> impl Iterator<Item = &'static str> {
+        let greatest = [
+            self.bank == 7,
+            self.row == 16_383,
+            self.column == column_pins(sheet),
+            self.lower == sheet.bl,
+            self.upper == sheet.bl,
+        ];
+        let fields = Request::FIELDS.into_iter().zip(greatest);
+        fields
+            .filter(|(_, greatest)| *greatest)
+            .map(|(name, _)| name)
+    }
 }
 
 /// The pins that carry the column: A0 to A7 by 16, A0 to A8 by 8. Also the greatest column.

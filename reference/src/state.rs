@@ -19,12 +19,12 @@ pub type ControllerNumbers = [u32; 130];
 /// Where the numbers of either state are; its sheet comes first.
 pub const CLOCK: usize = 10;
 pub const OPEN: usize = 11;
-pub const EVENTS: usize = 12;
+pub const EVENT: usize = 12;
 /// Where the further numbers of a checker are.
 pub const BREACH: usize = 33;
 /// Where the further numbers of a controller are; a place has six.
 pub const COUNT: usize = 33;
-pub const PLACES: usize = 34;
+pub const PLACE: usize = 34;
 
 /// So many numbers from a place on.
 fn part<const N: usize>(numbers: &[u32], from: usize) -> [u32; N] {
@@ -34,7 +34,7 @@ fn part<const N: usize>(numbers: &[u32], from: usize) -> [u32; N] {
 /// The checker of these numbers.
 pub fn checker(numbers: &CheckerNumbers) -> Checker<Both> {
     let [clock, first] = part(numbers, CLOCK);
-    let summary = Summary::of(clock, first, part(numbers, EVENTS));
+    let summary = Summary::of(clock, first, part(numbers, EVENT));
     Checker {
         sheet: Sheet::from_numbers(part(numbers, 0)),
         past: Both::without_history(summary),
@@ -79,8 +79,8 @@ fn opened_number(opened: Option<Opened>) -> u32 {
 
 /// The controller of these numbers; none if they name no kind of open pair.
 pub fn controller(numbers: &ControllerNumbers) -> Option<Controller<Both>> {
-    let place = |i| Request::from_numbers(part(numbers, PLACES + 6 * i));
-    let summary = |first| Summary::of(numbers[CLOCK], first, part(numbers, EVENTS));
+    let place = |i| Request::from_numbers(part(numbers, PLACE + 6 * i));
+    let summary = |first| Summary::of(numbers[CLOCK], first, part(numbers, EVENT));
     let mut controller = Controller {
         sheet: Sheet::from_numbers(part(numbers, 0)),
         past: Both::without_history(summary(DESL)),
@@ -111,6 +111,6 @@ pub fn controller_numbers(controller: &Controller<Both>) -> ControllerNumbers {
     for place in controller.queue.places {
         numbers.extend(place.numbers());
     }
-    assert_eq!(numbers.len(), PLACES + 6 * CAPACITY);
+    assert_eq!(numbers.len(), PLACE + 6 * CAPACITY);
     numbers.try_into().unwrap()
 }

@@ -180,8 +180,8 @@ impl Past for Summary {
                 self.close(pair::kind(first, word), word::bank(first));
                 self.first = word::DESL;
             }
-            None if !word::high(word, word::CS) => self.first = word,
-            None => {}
+            None if word::high(word, word::CS) => self.first = word::DESL,
+            None => self.first = word,
         }
         self.clock += 1;
     }
