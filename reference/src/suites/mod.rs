@@ -3,6 +3,7 @@
 pub mod checker;
 pub mod controller;
 mod ending;
+pub mod load;
 pub mod long;
 pub mod marks;
 pub mod near;

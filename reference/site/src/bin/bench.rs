@@ -7,8 +7,8 @@ use reference::hand_in::site_number;
 use reference::random::Random;
 use reference::script::bytes;
 use reference::sheet::{Sheet, SHEET_E};
-use reference::suites::{near, pool};
-use site::{call, load, plain};
+use reference::suites::{load, near, pool};
+use site::{call, plain};
 use std::hint::black_box;
 use std::time::Instant;
 
