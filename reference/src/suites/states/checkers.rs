@@ -1,11 +1,12 @@
 //! Cases for the steps and walks of a checker.
 
-use super::forge::{bare_checker, damage, delay_events, put_events, some_clock, spoil_sheet};
+use super::forge::{
+    around, bare_checker, damage, delay_events, put_events, some_clock, spoil_sheet, CLOCKS,
+};
 use super::run::CheckerRun;
 use crate::both::Both;
 use crate::checker::Checker;
 use crate::coverage::Coverage;
-use crate::judge::LONGEST;
 use crate::random::Random;
 use crate::script::{Call, Packer};
 use crate::sheet::Sheet;
@@ -17,9 +18,6 @@ use crate::word::{CS, DESL, FN, PD};
 /// The longest trace that a walk is made over.
 const WALKED: u32 = 1_100;
 
-/// Clocks on either side of each edge.
-const CLOCKS: [u32; 8] = [0, 1, 2, 40, LONGEST - 1, LONGEST, LONGEST + 1, u32::MAX];
-
 /// Every ground alone and its edges: each event at and around each clock, with and without an open
 /// pair; then the same beside a recorded breach, and on a sheet that is refused.
 pub fn edges(random: &Random, packer: &mut Packer, coverage: &mut Coverage) {
@@ -28,13 +26,7 @@ pub fn edges(random: &Random, packer: &mut Packer, coverage: &mut Coverage) {
             let bare = bare_checker(&pool::sheet(random), clock, first);
             beside(random, packer, coverage, bare);
             for event in EVENT..EVENT + EVENTS {
-                let around = [
-                    clock.wrapping_sub(1),
-                    clock,
-                    clock.wrapping_add(1),
-                    u32::MAX,
-                ];
-                for value in around {
+                for value in around(clock) {
                     let mut numbers = bare_checker(&pool::sheet(random), clock, first);
                     numbers[event] = value;
                     beside(random, packer, coverage, numbers);

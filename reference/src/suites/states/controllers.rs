@@ -1,14 +1,13 @@
 //! Cases for the offers and ticks of a controller.
 
 use super::forge::{
-    bare_controller, damage, delay_events, put_events, put_place, some_clock, some_request,
-    spoil_sheet,
+    around, bare_controller, damage, delay_events, put_events, put_place, some_clock, some_request,
+    spoil_sheet, CLOCKS,
 };
 use super::run::{ControllerRun, Form};
 use crate::both::Both;
 use crate::controller::Controller;
 use crate::coverage::Coverage;
-use crate::judge::LONGEST;
 use crate::pair::{column_pins, Request};
 use crate::random::Random;
 use crate::script::{Call, Packer};
@@ -16,9 +15,6 @@ use crate::sheet::Sheet;
 use crate::state::{self, ControllerNumbers, EVENT, OPEN};
 use crate::suites::pool;
 use crate::summary::EVENTS;
-
-/// Clocks on either side of each edge.
-const CLOCKS: [u32; 8] = [0, 1, 2, 40, LONGEST - 1, LONGEST, LONGEST + 1, u32::MAX];
 
 /// Counts on either side of the capacity.
 const COUNTS: [u32; 7] = [0, 1, 2, 15, 16, 17, u32::MAX];
@@ -44,13 +40,7 @@ pub fn edges(random: &Random, packer: &mut Packer, coverage: &mut Coverage) {
             let bare = || bare_controller(random, &pool::sheet(random), (clock, opened, count));
             beside(random, packer, coverage, bare());
             for event in EVENT..EVENT + EVENTS {
-                let around = [
-                    clock.wrapping_sub(1),
-                    clock,
-                    clock.wrapping_add(1),
-                    u32::MAX,
-                ];
-                for value in around {
+                for value in around(clock) {
                     let mut numbers = bare();
                     numbers[event] = value;
                     beside(random, packer, coverage, numbers);

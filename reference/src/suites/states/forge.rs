@@ -8,6 +8,19 @@ use crate::state::{CheckerNumbers, ControllerNumbers, CLOCK, COUNT, EVENT, OPEN,
 use crate::suites::pool;
 use crate::summary::EVENTS;
 
+/// Clocks on either side of each edge.
+pub const CLOCKS: [u32; 8] = [0, 1, 2, 40, LONGEST - 1, LONGEST, LONGEST + 1, u32::MAX];
+
+/// Clocks of an event around that of its state, and the greatest.
+pub fn around(clock: u32) -> [u32; 4] {
+    [
+        clock.wrapping_sub(1),
+        clock,
+        clock.wrapping_add(1),
+        u32::MAX,
+    ]
+}
+
 /// A checker that remembers nothing.
 pub fn bare_checker(sheet: &Sheet, clock: u32, first: u32) -> CheckerNumbers {
     let mut numbers = [0; 35];

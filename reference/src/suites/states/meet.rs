@@ -4,6 +4,7 @@
 use crate::coverage::Coverage;
 use crate::ground::Ground;
 use crate::sheet::Sheet;
+use crate::summary::NAMES;
 
 /// The refusals of a state in their order: its sheet's own, then 19.
 pub fn of_state(sheet: &Sheet, grounds: &[Ground]) -> Vec<String> {
@@ -45,7 +46,7 @@ pub fn promised_grounds(call: &str, grounds: &[Ground]) -> Vec<String> {
     let alone = |ground| format!("{call}: 19 for {ground} alone");
     let mut promised: Vec<String> = grounds.iter().map(alone).collect();
     let latest = |event| format!("{call}: {event} one clock before");
-    promised.extend(crate::summary::NAMES.map(latest));
+    promised.extend(NAMES.map(latest));
     promised.push(format!("{call}: 19 for several grounds"));
     promised.push(format!("{call}: not refused"));
     promised

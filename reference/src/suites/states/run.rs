@@ -28,6 +28,7 @@ fn ending(other: Call) -> [Call; 2] {
     [Call::ReadPair(PD | FN, PD | 0x42), other]
 }
 
+/// A checker that was put, and its calls.
 pub struct CheckerRun<'a> {
     checker: Checker<Both>,
     calls: Vec<Call>,
@@ -70,6 +71,7 @@ impl<'a> CheckerRun<'a> {
         meet(self.coverage, call, &grounds, &standing);
     }
 
+    /// Steps by a word.
     pub fn step(&mut self, word: u32) {
         self.count("step", false);
         self.checker.step(word);
@@ -77,6 +79,7 @@ impl<'a> CheckerRun<'a> {
         self.calls.push(Call::ShowChecker);
     }
 
+    /// Advances a walk over the words that has reached the checker.
     pub fn advance(&mut self, words: Vec<u32>) {
         self.count("walk", words.len() <= self.checker.past.clock() as usize);
         let mut walk = Walk::at(self.checker.clone(), &words);
@@ -91,6 +94,7 @@ impl<'a> CheckerRun<'a> {
         self.checker.past.clock()
     }
 
+    /// Sends the calls as a group.
     pub fn send(mut self, packer: &mut Packer) {
         self.calls.extend(ending(Call::ShowController));
         packer.group(&self.calls);
@@ -104,6 +108,7 @@ pub enum Form {
     Lent,
 }
 
+/// A controller that was put, and its calls.
 pub struct ControllerRun<'a> {
     pub controller: Controller<Both>,
     calls: Vec<Call>,
@@ -157,6 +162,7 @@ impl<'a> ControllerRun<'a> {
         }
     }
 
+    /// Offers a request of these numbers.
     pub fn offer(&mut self, form: Form, numbers: [u32; 6]) {
         let request = Request::from_numbers(numbers);
         let unfit = !request.fits(&self.controller.sheet);
@@ -179,6 +185,7 @@ impl<'a> ControllerRun<'a> {
         self.tick_by(form, made, 1);
     }
 
+    /// Ticks so many times.
     pub fn tick(&mut self, form: Form, count: u32) {
         let made = match form {
             Form::Value => Call::Tick(count),
@@ -187,6 +194,7 @@ impl<'a> ControllerRun<'a> {
         self.tick_by(form, made, count);
     }
 
+    /// Ticks by a call that ticks so many times, up to the first that is refused.
     fn tick_by(&mut self, form: Form, made: Call, count: u32) {
         let call = match form {
             Form::Value => "tick",
@@ -202,6 +210,7 @@ impl<'a> ControllerRun<'a> {
         self.calls.extend([made, Call::ShowController]);
     }
 
+    /// Sends the calls as a group.
     pub fn send(mut self, packer: &mut Packer) {
         self.calls.extend(ending(Call::ShowChecker));
         packer.group(&self.calls);
