@@ -1,14 +1,22 @@
 //! The controller, deciding by the published rules on the words it has given so far.
 
+use crate::ground::{self, Ground, NO_REQUEST};
 use crate::judge::LONGEST;
 use crate::pair::{self, Operation, Request};
 use crate::past::Past;
+use crate::queue::{Queue, CAPACITY};
 use crate::sheet::Sheet;
 use crate::word::DESL;
-use std::collections::VecDeque;
 
-/// The number of requests that can wait.
-pub const CAPACITY: usize = 16;
+/// Which pair is open.
+#[derive(Clone, Copy, Debug, PartialEq, Eq)]
+pub enum Opened {
+    Extended,
+    Regular,
+    Refresh,
+    /// That of the oldest request.
+    Oldest,
+}
 
 /// A controller on a sheet, accepted or not. `past` is of the words given, so its clock is the
 /// controller's.
@@ -16,9 +24,8 @@ pub const CAPACITY: usize = 16;
 pub struct Controller<P> {
     pub sheet: Sheet,
     pub past: P,
-    pub waiting: VecDeque<Request>,
-    /// Of an open pair: its closing word, and whether it is the oldest request's.
-    closing: Option<(u32, bool)>,
+    pub opened: Option<Opened>,
+    pub queue: Queue,
 }
 
 impl<P: Past> Controller<P> {
@@ -27,48 +34,44 @@ impl<P: Past> Controller<P> {
         Controller {
             sheet,
             past: P::fresh(),
-            waiting: VecDeque::new(),
-            closing: None,
+            opened: None,
+            queue: Queue::fresh(),
         }
     }
 
-    /// Takes a request: the sheet's refusals, then 26 a field out of range, then 27 sixteen wait.
+    /// The grounds of 19.
+    pub fn grounds(&self) -> Vec<Ground> {
+        let mut grounds = ground::common(&self.past, self.opened.is_some());
+        grounds.extend(self.queue.grounds(&self.sheet));
+        if self.opened == Some(Opened::Oldest) && self.queue.count == 0 {
+            grounds.push(NO_REQUEST);
+        }
+        grounds
+    }
+
+    /// The refusals that come before those of the call: the sheet's, then 19.
+    pub fn refusal(&self) -> Option<u32> {
+        ground::refusal(&self.sheet, || self.grounds())
+    }
+
+    /// Takes a request: the sheet's refusals, 19, then 26 a field out of range, then 27 sixteen wait.
     pub fn offer(&mut self, request: Request) -> Result<(), u32> {
-        if let Some(number) = self.sheet.refusal() {
+        if let Some(number) = self.refusal() {
             return Err(number);
         }
         if !request.fits(&self.sheet) {
             return Err(26);
         }
-        if self.waiting.len() == CAPACITY {
+        if self.queue.count as usize == CAPACITY {
             return Err(27);
         }
-        self.waiting.push_back(request);
+        self.queue.put(request);
         Ok(())
     }
 
-    /// The pair that has the turn at this clock, if any, and whether it is the oldest request's.
-    fn turn(&self) -> Option<(Operation, bool)> {
-        if !self.past.extended_stands() {
-            return Some((Operation::Extended(0), false));
-        }
-        if !self.past.regular_stands() {
-            return Some((Operation::Regular(false), false));
-        }
-        if !self.past.second_ref_stands() {
-            return Some((Operation::Refresh, false));
-        }
-        let last_ref = self.past.last_ref().unwrap();
-        if self.past.clock() >= last_ref + self.sheet.d() - self.sheet.rc() {
-            return Some((Operation::Refresh, false));
-        }
-        let oldest = self.waiting.front()?;
-        Some((Operation::Access(*oldest), true))
-    }
-
-    /// The word for this clock: the sheet's refusals, then 24 at the last clock.
+    /// The word for this clock: the sheet's refusals, 19, then 24 at the last clock.
     pub fn tick(&mut self) -> Result<u32, u32> {
-        if let Some(number) = self.sheet.refusal() {
+        if let Some(number) = self.refusal() {
             return Err(number);
         }
         if self.past.clock() == LONGEST {
@@ -82,20 +85,54 @@ impl<P: Past> Controller<P> {
     /// The closing word of an open pair; else the first word of the pair that has the turn, if the
     /// two would break nothing; else DESL.
     fn next_word(&mut self) -> u32 {
-        if let Some((word, of_request)) = self.closing.take() {
-            if of_request {
-                self.waiting.pop_front();
+        if let Some(opened) = self.opened.take() {
+            let words = self.words_of(opened).expect("a pair within its ranges");
+            if opened == Opened::Oldest {
+                self.queue.leave();
             }
-            return word;
+            return words.1;
         }
-        let Some((operation, of_request)) = self.turn() else {
+        let Some(turn) = self.turn() else {
             return DESL;
         };
-        let words = pair::write(&self.sheet, &operation).expect("an operation within its ranges");
+        let words = self.words_of(turn).expect("a pair within its ranges");
         if !self.past.admits(&self.sheet, words) {
             return DESL;
         }
-        self.closing = Some((words.1, of_request));
+        self.opened = Some(turn);
         words.0
+    }
+
+    /// The pair that has the turn at this clock, if any.
+    fn turn(&self) -> Option<Opened> {
+        if !self.past.extended_stands() {
+            return Some(Opened::Extended);
+        }
+        if !self.past.regular_stands() {
+            return Some(Opened::Regular);
+        }
+        if !self.past.second_ref_stands() || self.refresh_is_due() {
+            return Some(Opened::Refresh);
+        }
+        (self.queue.count > 0).then_some(Opened::Oldest)
+    }
+
+    /// Whether the last REF word is so long before that a refresh comes ahead of requests. A state
+    /// that names a second last REF word and no last one contradicts itself, and the paper does not
+    /// say what is due then: it is taken as a last REF word at clock 0, which its number says.
+    fn refresh_is_due(&self) -> bool {
+        let r = self.past.last_ref().unwrap_or(0);
+        self.past.clock() >= r + self.sheet.d() - self.sheet.rc()
+    }
+
+    /// The two words of a pair; none if it is of no request, or out of the sheet's ranges.
+    pub fn words_of(&self, opened: Opened) -> Option<(u32, u32)> {
+        let operation = match opened {
+            Opened::Extended => Operation::Extended(0),
+            Opened::Regular => Operation::Regular(false),
+            Opened::Refresh => Operation::Refresh,
+            Opened::Oldest => Operation::Access(*self.queue.waiting().first()?),
+        };
+        pair::write(&self.sheet, &operation).ok()
     }
 }

@@ -13,6 +13,19 @@ pub struct Counts {
     pub desls: u32,
 }
 
+impl Counts {
+    /// The five counts in the paper's order.
+    pub fn numbers(&self) -> [u32; 5] {
+        [
+            self.reads,
+            self.writes,
+            self.modes,
+            self.refreshes,
+            self.desls,
+        ]
+    }
+}
+
 /// The longest trace that the tally takes.
 pub const LONGEST_TALLY: usize = 65_536;
 

@@ -20,13 +20,17 @@ impl Coverage {
         }
     }
 
-    /// Counts the lines that answered a call: refusals and breaches by number, others by their word.
+    /// Counts the lines that answered a call: refusals and breaches by number, also where a number
+    /// stands beside the answer; others by their word.
     pub fn answer(&mut self, call: &Call, lines: &[&str]) {
         for line in lines {
-            let mut parts = line.split(' ');
-            let name = parts.next().unwrap_or("");
-            let numbered = matches!(name, "refused" | "breach" | "config");
-            match parts.next_back().filter(|_| numbered) {
+            let (name, numbers) = line.split_once(' ').unwrap_or((line, ""));
+            let number = match (name, call) {
+                ("refused" | "breach" | "config", _) => numbers.split(' ').next_back(),
+                ("tick", _) | ("counts", Call::CountAnyway(_)) => numbers.split(' ').next(),
+                _ => None,
+            };
+            match number {
                 Some(number) => self.meet(&format!("{} {name} {number}", call.code())),
                 None => self.meet(&format!("{} {name}", call.code())),
             }

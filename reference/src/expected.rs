@@ -1,14 +1,17 @@
 //! The text that the replay program must write for a script, by this implementation.
 
+use crate::both::Both;
 use crate::checker::{Checker, Step};
 use crate::controller::Controller;
-use crate::counts::counts;
+use crate::counts::{counts, Counts};
 use crate::judge::{check, Verdict};
+use crate::lines::{self, numbered, refused};
 use crate::pair::{self, Operation, Request};
-use crate::past::{Both, Past};
+use crate::past::Past;
 use crate::script::{bytes, Call, PairNumbers};
 use crate::sheet::{Sheet, SHEET_E};
-use crate::walk::{Move, Walk};
+use crate::state::{self, CheckerNumbers, ControllerNumbers};
+use crate::walk::Walk;
 use crate::word::DESL;
 use std::fmt::Write;
 
@@ -48,16 +51,13 @@ impl Player {
                 format!("config {}\n", self.sheet.refusal().unwrap_or(0))
             }
             Call::Step { count, word } => self.step(*count, *word),
-            Call::Check(words) => match check::<Both>(&self.sheet, words) {
-                Ok(Verdict::Accepted) => format!("accepted {}\n", words.len()),
-                Ok(Verdict::Breach { clock, number }) => format!("breach {clock} {number}\n"),
-                Err(number) => refused(number),
-            },
+            Call::Check(words) => self.check(words),
             // A lent controller answers and is left as one that is handed back.
             Call::Offer(numbers) | Call::OfferLent(numbers) => self.offer(*numbers),
             Call::Tick(count) | Call::TickLent(count) => self.tick(*count),
+            Call::TickOnce | Call::TickOnceLent => self.tick_once(),
             Call::ReadPair(first, second) => match pair::read(&self.sheet, *first, *second) {
-                Ok(operation) => operation_line(&operation),
+                Ok(operation) => lines::operation(&operation),
                 Err(number) => refused(number),
             },
             Call::WritePair(numbers) => match pair::write(&self.sheet, &operation(numbers)) {
@@ -65,21 +65,40 @@ impl Player {
                 Err(number) => refused(number),
             },
             Call::Count(words) => match counts(words) {
-                Ok(c) => format!(
-                    "counts {} {} {} {} {}\n",
-                    c.reads, c.writes, c.modes, c.refreshes, c.desls
-                ),
+                Ok(counts) => numbered("counts", &counts.numbers()),
                 Err(number) => refused(number),
             },
-            Call::Waiting => {
-                let waiting = &self.controller.waiting;
-                let mut text = format!("waiting {}\n", waiting.len());
-                for request in waiting {
-                    text += &format!("request {}\n", spaced(&request.numbers()));
-                }
-                text
-            }
+            Call::CountAnyway(words) => count_anyway(words),
+            Call::Waiting => self.waiting(),
             Call::Walk(words) => self.walk(words),
+            Call::Advance(words) => self.advance(words),
+            Call::PutChecker(numbers) => self.put_checker(numbers),
+            Call::PutController(numbers) => self.put_controller(numbers),
+            Call::ShowChecker => numbered("checker", &state::checker_numbers(&self.checker)),
+            Call::ShowController => {
+                numbered("controller", &state::controller_numbers(&self.controller))
+            }
+        }
+    }
+
+    /// Puts the checker into a state, which writes nothing.
+    fn put_checker(&mut self, numbers: &CheckerNumbers) -> String {
+        self.checker = state::checker(numbers);
+        String::new()
+    }
+
+    /// Puts the controller into a state, which writes nothing.
+    fn put_controller(&mut self, numbers: &ControllerNumbers) -> String {
+        self.controller = state::controller(numbers).expect("a kind of open pair");
+        String::new()
+    }
+
+    /// The whole check on the configuration.
+    fn check(&self, words: &[u32]) -> String {
+        match check::<Both>(&self.sheet, words) {
+            Ok(Verdict::Accepted) => format!("accepted {}\n", words.len()),
+            Ok(Verdict::Breach { clock, number }) => format!("breach {clock} {number}\n"),
+            Err(number) => refused(number),
         }
     }
 
@@ -104,7 +123,15 @@ impl Player {
         }
         let again = walk.advance();
         let clock = walk.checker.past.clock();
-        move_line(stop, clock) + &move_line(again, clock)
+        lines::moved(stop, clock) + &lines::moved(again, clock)
+    }
+
+    /// One move of a walk that has reached the checker as it is, which is left as the walk's.
+    fn advance(&mut self, words: &[u32]) -> String {
+        let mut walk = Walk::at(self.checker.clone(), words);
+        let moved = walk.advance();
+        self.checker = walk.checker;
+        lines::moved(moved, self.checker.past.clock())
     }
 
     /// Offers a request to the controller.
@@ -129,37 +156,34 @@ impl Player {
         }
         text + &format!("clock {}\n", self.controller.past.clock())
     }
-}
 
-/// The line of a refusal.
-fn refused(number: u32) -> String {
-    format!("refused {number}\n")
-}
+    /// Ticks once, and shows the word of a refused tick too, which is 0.
+    fn tick_once(&mut self) -> String {
+        let (number, word) = match self.controller.tick() {
+            Ok(word) => (0, word),
+            Err(number) => (number, 0),
+        };
+        format!("tick {number} {word}\n")
+    }
 
-/// The line of a walk's move, with the clock that it has reached.
-fn move_line(moved: Move, clock: u32) -> String {
-    match moved {
-        None => "end\n".to_string(),
-        Some(Step::Pass) => format!("pass {clock}\n"),
-        Some(Step::Breach { clock, number }) => format!("breach {clock} {number}\n"),
-        Some(Step::Refused(number)) => refused(number),
+    /// The requests waiting; of a count above sixteen, those that have a place.
+    fn waiting(&self) -> String {
+        let queue = &self.controller.queue;
+        let mut text = format!("waiting {}\n", queue.count);
+        for request in queue.waiting() {
+            text += &numbered("request", &request.numbers());
+        }
+        text
     }
 }
 
-/// Numbers in decimal with a blank between.
-fn spaced(numbers: &[u32]) -> String {
-    let texts: Vec<String> = numbers.iter().map(u32::to_string).collect();
-    texts.join(" ")
-}
-
-/// The line of an operation that was read.
-fn operation_line(operation: &Operation) -> String {
-    match operation {
-        Operation::Access(request) => format!("access {}\n", spaced(&request.numbers())),
-        Operation::Regular(a3) => format!("regular {}\n", *a3 as u32),
-        Operation::Extended(value) => format!("extended {value}\n"),
-        Operation::Refresh => "refresh\n".to_string(),
-    }
+/// Counts the commands, and shows the counts of a refused tally too, which are 0.
+fn count_anyway(words: &[u32]) -> String {
+    let (number, counts) = match counts(words) {
+        Ok(counts) => (0, counts),
+        Err(number) => (number, Counts::default()),
+    };
+    numbered("counts", &[&[number], &counts.numbers()[..]].concat())
 }
 
 /// The operation of raw numbers.

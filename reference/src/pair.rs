@@ -52,6 +52,19 @@ const LOWER_VW: (u32, u32) = (BA2, a(13));
 const UPPER_VW: (u32, u32) = (a(12), a(11));
 
 impl Request {
+    /// The names of the fields that have a range.
+    pub const FIELDS: [&str; 5] = ["bank", "row", "column", "lower lane", "upper lane"];
+
+    /// What stands in a place that no request has had.
+    pub const VACANT: Request = Request {
+        write: false,
+        bank: 0,
+        row: 0,
+        column: 0,
+        lower: 0,
+        upper: 0,
+    };
+
     /// A request from its six numbers; the first is 0 for a read.
     pub fn from_numbers(n: [u32; 6]) -> Request {
         Request {
@@ -78,15 +91,40 @@ impl Request {
 
     /// Whether every field is in the range that the sheet gives it.
     pub fn fits(&self, sheet: &Sheet) -> bool {
-        let lane_fits = |words: u32| words == 1 || words == 2 || (words == 4 && sheet.bl == 4);
-        let lanes_fit = if !self.write {
-            self.lower == 0 && self.upper == 0
-        } else if sheet.org == 16 {
-            lane_fits(self.lower) && lane_fits(self.upper)
-        } else {
-            lane_fits(self.lower) && self.upper == 0
+        self.unfit(sheet).next().is_none()
+    }
+
+    /// The names of the fields that are not in the range that the sheet gives them.
+    pub fn unfit(&self, sheet: &Sheet) -> impl Iterator<Item = &'static str> {
+        let lane_fits = |in_use: bool, words: u32| match words {
+            0 => !in_use,
+            1 | 2 => in_use,
+            _ => in_use && words == 4 && sheet.bl == 4,
         };
-        self.bank <= 7 && self.row <= 16_383 && self.column <= column_pins(sheet) && lanes_fit
+        let fits = [
+            self.bank <= 7,
+            self.row <= 16_383,
+            self.column <= column_pins(sheet),
+            lane_fits(self.write, self.lower),
+            lane_fits(self.write && sheet.org == 16, self.upper),
+        ];
+        let fields = Request::FIELDS.into_iter().zip(fits);
+        fields.filter(|(_, fits)| !fits).map(|(name, _)| name)
+    }
+
+    /// The names of the fields that are at the end of their range.
+    pub fn greatest(&self, sheet: &Sheet) -> impl Iterator<Item = &'static str> {
+        let greatest = [
+            self.bank == 7,
+            self.row == 16_383,
+            self.column == column_pins(sheet),
+            self.lower == sheet.bl,
+            self.upper == sheet.bl,
+        ];
+        let fields = Request::FIELDS.into_iter().zip(greatest);
+        fields
+            .filter(|(_, greatest)| *greatest)
+            .map(|(name, _)| name)
     }
 }
 

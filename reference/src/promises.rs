@@ -1,10 +1,11 @@
 //! The promises of demand 3, checked sentence by sentence on what a program wrote for a list of
 //! offers and ticks. Nothing of the reference controller is used here.
 
+use crate::both::Both;
 use crate::checker::{Checker, Step};
 use crate::judge::LONGEST;
 use crate::pair::{self, Operation, Request};
-use crate::past::{Both, Past};
+use crate::past::Past;
 use crate::script::Call;
 use crate::sheet::{Sheet, SHEET_E};
 use crate::word::{high, CS, DESL};

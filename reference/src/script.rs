@@ -1,6 +1,8 @@
 //! The replay program's script: each call as its code and its numbers. A further code needs a case
 //! in `Call`, in `code`, `numbers` and `decode` here, and one in the player that answers it.
 
+use crate::state::{self, CheckerNumbers, ControllerNumbers};
+
 /// One call. Numbers are raw, so that a case can hand over any.
 #[derive(Clone, Debug, PartialEq, Eq)]
 pub enum Call {
@@ -28,6 +30,22 @@ pub enum Call {
     OfferLent([u32; 6]),
     /// Tick a lent controller count times.
     TickLent(u32),
+    /// Put the checker into a state.
+    PutChecker(Box<CheckerNumbers>),
+    /// Put the controller into a state, of which the number of the open pair is at most 4.
+    PutController(Box<ControllerNumbers>),
+    /// The checker's state.
+    ShowChecker,
+    /// The controller's state.
+    ShowController,
+    /// Tick once, the word of a refused tick shown too.
+    TickOnce,
+    /// Tick a lent controller once.
+    TickOnceLent,
+    /// Count the commands, the counts of a refused tally shown too.
+    CountAnyway(Vec<u32>),
+    /// One advance of a walk over the words that has reached the checker as it is.
+    Advance(Vec<u32>),
 }
 
 /// The operation of a pair to be written, in raw numbers.
@@ -58,6 +76,14 @@ impl Call {
             Call::Walk(_) => 10,
             Call::OfferLent(_) => 11,
             Call::TickLent(_) => 12,
+            Call::PutChecker(_) => 101,
+            Call::PutController(_) => 102,
+            Call::ShowChecker => 103,
+            Call::ShowController => 104,
+            Call::TickOnce => 105,
+            Call::TickOnceLent => 106,
+            Call::CountAnyway(_) => 107,
+            Call::Advance(_) => 108,
         }
     }
 
@@ -68,6 +94,7 @@ impl Call {
             Call::Config(sheet) => sheet.to_vec(),
             Call::Step { count, word } => vec![*count, *word],
             Call::Check(words) | Call::Count(words) | Call::Walk(words) => counted(words),
+            Call::CountAnyway(words) | Call::Advance(words) => counted(words),
             Call::Offer(request) | Call::OfferLent(request) => request.to_vec(),
             Call::Tick(count) | Call::TickLent(count) => vec![*count],
             Call::ReadPair(first, second) => vec![*first, *second],
@@ -75,7 +102,10 @@ impl Call {
             Call::WritePair(PairNumbers::Regular(a3)) => vec![1, *a3],
             Call::WritePair(PairNumbers::Extended(value)) => vec![2, *value],
             Call::WritePair(PairNumbers::Refresh) => vec![3],
-            Call::Waiting => vec![],
+            Call::PutChecker(numbers) => numbers.to_vec(),
+            Call::PutController(numbers) => numbers.to_vec(),
+            Call::Waiting | Call::ShowChecker | Call::ShowController => vec![],
+            Call::TickOnce | Call::TickOnceLent => vec![],
         }
     }
 
@@ -112,6 +142,16 @@ impl Call {
             10 => Call::Walk(counted(rest)?),
             11 => Call::OfferLent(some(rest)?),
             12 => Call::TickLent(one(rest)?),
+            101 => Call::PutChecker(Box::new(some(rest)?)),
+            102 => Call::PutController(Box::new(
+                some(rest).filter(|numbers| state::controller(numbers).is_some())?,
+            )),
+            103 => Call::ShowChecker,
+            104 => Call::ShowController,
+            105 => Call::TickOnce,
+            106 => Call::TickOnceLent,
+            107 => Call::CountAnyway(counted(rest)?),
+            108 => Call::Advance(counted(rest)?),
             _ => return None,
         };
         Some(call)

@@ -1,100 +1,155 @@
 //! The fast path: of the history only the newest events are kept, one clock for each.
-//! Tests and every comparison run hold it against the whole history.
+//! Tests and comparison runs hold it against the whole history, up to some thousand pairs.
 
 use crate::pair::{self, Kind};
 use crate::past::Past;
 use crate::sheet::Sheet;
 use crate::word;
 
+/// The number of events.
+pub const EVENTS: usize = 21;
+
+/// The names of the events: the first extended MRS word, and the newest word of each other kind.
+#[rustfmt::skip]
+pub const NAMES: [&str; EVENTS] = [
+    "extended", "regular", "mode", "read", "write",
+    "bank 0", "bank 1", "bank 2", "bank 3", "bank 4", "bank 5", "bank 6", "bank 7",
+    "last REF", "2nd last REF", "3rd last REF", "4th last REF",
+    "5th last REF", "6th last REF", "7th last REF", "8th last REF",
+];
+
+/// The places of the events; the banks and the REF words have eight from there on.
+const EXTENDED: usize = 0;
+const REGULAR: usize = 1;
+const MODE: usize = 2;
+const READ: usize = 3;
+const WRITE: usize = 4;
+const BANKS: usize = 5;
+const REFS: usize = 13;
+
 /// The newest events before a clock.
 #[derive(Clone, Copy, Debug)]
 pub struct Summary {
     clock: u32,
-    open: Option<u32>,
-    /// The clock of the first extended MRS word.
-    first_extended: Option<u32>,
-    regular: bool,
-    /// First words of the newest mode pair, read and write, and of the newest access by bank.
-    mode: Option<u32>,
-    read: Option<u32>,
-    write: Option<u32>,
-    by_bank: [Option<u32>; 8],
-    /// The number of REF words, and the newest eight: the n-th is kept at n modulo 8.
-    refs: u32,
-    ref_words: [u32; 8],
-}
-
-/// Whether an event stands and is less than so many clocks before.
-fn within(clock: u32, event: Option<u32>, spacing: u32) -> bool {
-    event.is_some_and(|t| clock - t < spacing)
+    /// The first word of the open pair; a word with CS high is none.
+    first: u32,
+    /// The clocks of the closing words; 0 is never, since no pair closes there.
+    events: [u32; EVENTS],
 }
 
 impl Summary {
+    /// The summary of any numbers, sound or not.
+    pub fn of(clock: u32, first: u32, events: [u32; EVENTS]) -> Summary {
+        Summary {
+            clock,
+            first,
+            events,
+        }
+    }
+
+    /// The word that stands for the open pair, or with CS high for none.
+    pub fn first(&self) -> u32 {
+        self.first
+    }
+
+    /// The clocks of all events.
+    pub fn events(&self) -> [u32; EVENTS] {
+        self.events
+    }
+
+    /// The first word of the open pair, if one is open.
+    fn open(&self) -> Option<u32> {
+        Some(self.first).filter(|&first| !word::high(first, word::CS))
+    }
+
+    /// The clock of an event, if it stands.
+    fn at(&self, event: usize) -> Option<u32> {
+        Some(self.events[event]).filter(|&clock| clock != 0)
+    }
+
+    /// Whether an event stands less than so many clocks before this one. Closing words are as far
+    /// from each other as first words.
+    fn within(&self, event: usize, spacing: u32) -> bool {
+        self.at(event).is_some_and(|t| self.clock - t < spacing)
+    }
+
     /// The lowest of rules 4 to 12 that a closing word breaks.
     fn closing(&self, sheet: &Sheet, first: u32, second: u32) -> Option<u32> {
-        let k = self.clock;
-        let u = k - 1;
         let kind = pair::kind(first, second);
-        let access = self.read.max(self.write);
         if kind.is_mode() && !pair::mode_fields_fit(sheet, second) {
             return Some(4);
         }
         if kind == Kind::Write && pair::reserved_lane(sheet, second) {
             return Some(5);
         }
-        if kind.is_access() {
-            let ready = self.regular && self.refs >= 2;
-            if !ready || self.first_extended.is_none_or(|e| u - e < 200) {
-                return Some(6);
-            }
-            if within(u, self.by_bank[word::bank(first) as usize], sheet.rc()) {
-                return Some(7);
-            }
-            let turn = match kind {
-                Kind::Write => within(u, self.read, sheet.rwd + 1),
-                _ => within(u, self.write, sheet.wrd + 1),
-            };
-            if turn || within(u, access, sheet.rbd) {
-                return Some(8);
-            }
+        let access = || self.access(sheet, kind, word::bank(first));
+        let of_access = kind.is_access().then(access).flatten();
+        of_access.or_else(|| self.spacing(sheet, kind))
+    }
+
+    /// The lowest of rules 6 to 8 that a read or write breaks.
+    fn access(&self, sheet: &Sheet, kind: Kind, bank: u32) -> Option<u32> {
+        let started = self.regular_stands() && self.second_ref_stands();
+        if !started || !self.extended_stands() || self.within(EXTENDED, 200 + 1) {
+            return Some(6);
         }
-        if within(u, self.mode, sheet.rsc) {
+        if self.within(BANKS + bank as usize, sheet.rc()) {
+            return Some(7);
+        }
+        let turned = match kind {
+            Kind::Write => self.within(READ, sheet.rwd + 1),
+            _ => self.within(WRITE, sheet.wrd + 1),
+        };
+        (turned || self.after_access(sheet.rbd)).then_some(8)
+    }
+
+    /// The lowest of rules 9 to 12 that a pair breaks.
+    fn spacing(&self, sheet: &Sheet, kind: Kind) -> Option<u32> {
+        if self.within(MODE, sheet.rsc) {
             return Some(9);
         }
-        if within(k, self.last_ref(), sheet.refc) {
+        if self.within(REFS, sheet.refc) {
             return Some(10);
         }
-        if !kind.is_access() && within(u, access, sheet.rc()) {
+        if !kind.is_access() && self.after_access(sheet.rc()) {
             return Some(11);
         }
-        if kind.is_mode() {
-            let data = sheet.bl / 2 + 1;
-            if within(u, self.read, sheet.cl + data) || within(u, self.write, sheet.wl() + data) {
-                return Some(11);
+        let data = sheet.bl / 2 + 1;
+        let after_data =
+            self.within(READ, sheet.cl + data) || self.within(WRITE, sheet.wl() + data);
+        if kind.is_mode() && after_data {
+            return Some(11);
+        }
+        (kind == Kind::Refresh && self.within(REFS + 7, sheet.w())).then_some(12)
+    }
+
+    /// Whether a read or write stands less than so many clocks before.
+    fn after_access(&self, spacing: u32) -> bool {
+        self.within(READ, spacing) || self.within(WRITE, spacing)
+    }
+
+    /// Remembers a pair that closes at this clock.
+    fn close(&mut self, kind: Kind, bank: u32) {
+        let places: &[usize] = match kind {
+            Kind::Read => &[READ, BANKS + bank as usize],
+            Kind::Write => &[WRITE, BANKS + bank as usize],
+            Kind::Extended if self.extended_stands() => &[MODE],
+            Kind::Extended => &[MODE, EXTENDED],
+            Kind::Regular => &[MODE, REGULAR],
+            Kind::Refresh => {
+                self.events[REFS..].rotate_right(1);
+                &[REFS]
             }
+        };
+        for &place in places {
+            self.events[place] = self.clock;
         }
-        let eighth = self.ref_words[self.refs as usize % 8];
-        if kind == Kind::Refresh && self.refs >= 8 && k - eighth < sheet.w() {
-            return Some(12);
-        }
-        None
     }
 }
 
 impl Past for Summary {
     fn fresh() -> Summary {
-        Summary {
-            clock: 0,
-            open: None,
-            first_extended: None,
-            regular: false,
-            mode: None,
-            read: None,
-            write: None,
-            by_bank: [None; 8],
-            refs: 0,
-            ref_words: [0; 8],
-        }
+        Summary::of(0, word::DESL, [0; EVENTS])
     }
 
     fn clock(&self) -> u32 {
@@ -102,7 +157,7 @@ impl Past for Summary {
     }
 
     fn pair_open(&self) -> bool {
-        self.open.is_some()
+        self.open().is_some()
     }
 
     fn lowest(&self, sheet: &Sheet, word: u32) -> Option<u32> {
@@ -115,55 +170,48 @@ impl Past for Summary {
         if self.last_ref().is_some_and(|r| self.clock - r > sheet.d()) {
             return Some(3);
         }
-        self.open.and_then(|first| self.closing(sheet, first, word))
+        let first = self.open()?;
+        self.closing(sheet, first, word)
     }
 
     fn push(&mut self, word: u32) {
-        let k = self.clock;
-        self.clock += 1;
-        let Some(first) = self.open.take() else {
-            self.open = Some(word).filter(|&w| !word::high(w, word::CS));
-            return;
-        };
-        let u = Some(k - 1);
-        match pair::kind(first, word) {
-            Kind::Read => {
-                self.read = u;
-                self.by_bank[word::bank(first) as usize] = u;
+        match self.open() {
+            Some(first) => {
+                self.close(pair::kind(first, word), word::bank(first));
+                self.first = word::DESL;
             }
-            Kind::Write => {
-                self.write = u;
-                self.by_bank[word::bank(first) as usize] = u;
-            }
-            Kind::Extended => {
-                self.mode = u;
-                self.first_extended = self.first_extended.or(Some(k));
-            }
-            Kind::Regular => {
-                self.mode = u;
-                self.regular = true;
-            }
-            Kind::Refresh => {
-                self.ref_words[self.refs as usize % 8] = k;
-                self.refs += 1;
-            }
+            None if word::high(word, word::CS) => self.first = word::DESL,
+            None => self.first = word,
         }
+        self.clock += 1;
     }
 
     fn extended_stands(&self) -> bool {
-        self.first_extended.is_some()
+        self.at(EXTENDED).is_some()
     }
 
     fn regular_stands(&self) -> bool {
-        self.regular
+        self.at(REGULAR).is_some()
     }
 
     fn second_ref_stands(&self) -> bool {
-        self.refs >= 2
+        self.at(REFS + 1).is_some()
     }
 
     fn last_ref(&self) -> Option<u32> {
-        let newest = self.refs.checked_sub(1)?;
-        Some(self.ref_words[newest as usize % 8])
+        self.at(REFS)
+    }
+
+    fn late_events(&self) -> Vec<&'static str> {
+        let newest = self
+            .events
+            .iter()
+            .fold(0, |newest, &event| newest.max(event));
+        if newest < self.clock {
+            return Vec::new();
+        }
+        let late = |&(_, event): &(_, u32)| event != 0 && event >= self.clock;
+        let events = NAMES.into_iter().zip(self.events);
+        events.filter(late).map(|(name, _)| name).collect()
     }
 }

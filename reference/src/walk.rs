@@ -16,15 +16,17 @@ pub type Move = Option<Step>;
 impl<'a, P: Past> Walk<'a, P> {
     /// A walk before the first word; making one refuses nothing.
     pub fn fresh(sheet: Sheet, words: &'a [u32]) -> Walk<'a, P> {
-        Walk {
-            words,
-            checker: Checker::fresh(sheet),
-        }
+        Walk::at(Checker::fresh(sheet), words)
     }
 
-    /// Examines one more word: the sheet's refusals, then the end, then what a step says.
+    /// A walk that has reached a checker's clock.
+    pub fn at(checker: Checker<P>, words: &'a [u32]) -> Walk<'a, P> {
+        Walk { words, checker }
+    }
+
+    /// Examines one more word: the sheet's refusals, 19, then the end, then what a step says.
     pub fn advance(&mut self) -> Move {
-        if let Some(number) = self.checker.sheet.refusal() {
+        if let Some(number) = self.checker.refusal() {
             return Some(Step::Refused(number));
         }
         let next = self.words.get(self.checker.past.clock() as usize)?;

@@ -3,7 +3,8 @@
 
 use reference::checker::{Checker, Step};
 use reference::controller::Controller;
-use reference::judge::{judge, History, Verdict};
+use reference::history::History;
+use reference::judge::{judge, Verdict};
 use reference::pair::{self, Kind, Operation};
 use reference::past::Past;
 use reference::random::Random;
@@ -115,7 +116,7 @@ fn plain_and_fast_controllers_agree_and_pass_the_judge() {
         }
         assert_eq!(judge::<History>(&sheet, &words), Verdict::Accepted);
         let mut carried = carried(&sheet, &words);
-        carried.extend(plain.waiting.iter().map(|r| Operation::Access(*r)));
+        carried.extend(plain.queue.waiting().iter().map(|r| Operation::Access(*r)));
         let accepted: Vec<Operation> = accepted.into_iter().map(Operation::Access).collect();
         assert_eq!(carried, accepted);
     }

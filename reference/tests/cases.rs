@@ -3,7 +3,8 @@
 use reference::checker::Step;
 use reference::controller::Controller;
 use reference::expected::expected;
-use reference::judge::{check, judge, History, Verdict, LONGEST};
+use reference::history::History;
+use reference::judge::{check, judge, Verdict, LONGEST};
 use reference::pair::{self, Operation, Request};
 use reference::sheet::{Sheet, SHEET_E};
 use reference::summary::Summary;

@@ -1,8 +1,8 @@
 //! The exam site's number and the marker program's line: the paper's cases and the refusals' order.
 
+use reference::both::Both;
 use reference::hand_in::{marker_line, site_number};
 use reference::judge::LONGEST;
-use reference::past::Both;
 use reference::script::bytes;
 use reference::sheet::{Sheet, SHEET_E};
 use reference::summary::Summary;

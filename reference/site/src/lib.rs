@@ -5,7 +5,6 @@ compile_error!("the calls and the memory here are those of Linux with 64 bits");
 
 pub mod call;
 pub mod cases;
-pub mod load;
 pub mod memory;
 pub mod plain;
 pub mod run;

@@ -2,10 +2,10 @@
 
 use crate::call;
 use crate::memory::Edge;
+use reference::both::Both;
 use reference::coverage::Coverage;
 use reference::hand_in::{site_number, site_refusal};
 use reference::judge::LONGEST;
-use reference::past::Both;
 use reference::random::Random;
 use reference::sheet::Sheet;
 use std::process::exit;

@@ -9,7 +9,8 @@ use std::path::PathBuf;
 use std::process::exit;
 use std::time::Instant;
 
-const USAGE: &str = "compare --replay PATH|self [--scale N] [SUITE...]";
+const USAGE: &str =
+    "compare --replay PATH|self [--scale N] [pairs] [checker] [controller] [scripts] [states]";
 
 /// The program under comparison: a file, or none to play the scripts on this implementation.
 struct Program(Option<PathBuf>);

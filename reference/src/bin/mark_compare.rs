@@ -1,8 +1,8 @@
 //! Runs the marker program on traces and compares the bytes it writes with this implementation's.
 
+use reference::both::Both;
 use reference::coverage::Coverage;
 use reference::hand_in::marker_line;
-use reference::past::Both;
 use reference::program::{run, Feed, Output};
 use reference::random::Random;
 use reference::suites::marks;

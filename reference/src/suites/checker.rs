@@ -90,7 +90,7 @@ fn unfinished(words: &[u32]) -> bool {
 }
 
 /// A trace as steps, equal words that stand together in one call.
-fn steps(words: &[u32]) -> Vec<Call> {
+pub fn steps(words: &[u32]) -> Vec<Call> {
     let runs = words.chunk_by(|a, b| a == b);
     let step = |run: &[u32]| Call::Step {
         count: run.len() as u32,

@@ -2,9 +2,9 @@
 //! sheet E near the edges of the rules.
 
 use super::{long, near};
+use crate::both::Both;
 use crate::coverage::Coverage;
 use crate::hand_in::{marker_line, LONGEST_MARKED};
-use crate::past::Both;
 use crate::random::Random;
 use crate::script::bytes;
 use crate::sheet::SHEET_E;

@@ -3,6 +3,7 @@
 pub mod checker;
 pub mod controller;
 mod ending;
+pub mod load;
 pub mod long;
 pub mod marks;
 pub mod near;
@@ -10,6 +11,7 @@ pub mod pairs;
 pub mod pool;
 pub mod scripts;
 pub mod sheets;
+pub mod states;
 pub mod trace;
 
 use crate::coverage::Coverage;
@@ -33,7 +35,7 @@ pub struct Suite {
 }
 
 /// All suites, in the order in which they run.
-pub const SUITES: [Suite; 4] = [
+pub const SUITES: [Suite; 5] = [
     Suite {
         name: "pairs",
         seed: 0x5EED_0001,
@@ -61,6 +63,13 @@ pub const SUITES: [Suite; 4] = [
         cases: scripts::cases,
         promised: scripts::promised,
         promise: Some(promises::check),
+    },
+    Suite {
+        name: "states",
+        seed: 0x5EED_0008,
+        cases: states::cases,
+        promised: states::promised,
+        promise: None,
     },
 ];
 

@@ -2,7 +2,7 @@
 
 use super::pool;
 use crate::coverage::Coverage;
-use crate::judge::{Broken, History};
+use crate::history::{Broken, History};
 use crate::pair::Kind;
 use crate::past::Past;
 use crate::random::Random;

@@ -1,14 +1,14 @@
 //! Times the archive's check beside a plain one-pass checker in Rust, in the same run, on three
 //! valid traces. A measurement, not a test.
 
+use reference::both::Both;
 use reference::coverage::Coverage;
 use reference::hand_in::site_number;
-use reference::past::Both;
 use reference::random::Random;
 use reference::script::bytes;
 use reference::sheet::{Sheet, SHEET_E};
-use reference::suites::{near, pool};
-use site::{call, load, plain};
+use reference::suites::{load, near, pool};
+use site::{call, plain};
 use std::hint::black_box;
 use std::time::Instant;
 

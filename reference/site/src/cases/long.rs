@@ -1,12 +1,12 @@
 //! Traces as long as allowed, and longer.
 
-use crate::load;
 use crate::run::Run;
 use reference::hand_in::site_number;
 use reference::judge::LONGEST;
 use reference::random::Random;
 use reference::script::bytes;
 use reference::sheet::{Sheet, SHEET_E};
+use reference::suites::load;
 use reference::summary::Summary;
 use reference::word::{CS, DESL, PD};
 

@@ -2,8 +2,8 @@
 
 use crate::call;
 use crate::run::{fail, Run};
+use reference::both::Both;
 use reference::hand_in::site_number;
-use reference::past::Both;
 use reference::random::Random;
 use reference::script::bytes;
 use reference::sheet::Sheet;

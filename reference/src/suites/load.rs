@@ -1,12 +1,12 @@
 //! Valid traces of any length: idle, busy and mixed ones.
 
-use reference::pair::{self, Kind, Operation};
-use reference::past::Past;
-use reference::random::Random;
-use reference::sheet::Sheet;
-use reference::suites::pool;
-use reference::summary::Summary;
-use reference::word::DESL;
+use crate::pair::{self, Kind, Operation};
+use crate::past::Past;
+use crate::random::Random;
+use crate::sheet::Sheet;
+use crate::suites::pool;
+use crate::summary::Summary;
+use crate::word::DESL;
 
 /// A trace under way; every pair waits until the rules admit it.
 struct Load {

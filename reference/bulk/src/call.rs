@@ -1,0 +1,83 @@
+//! Calls of the archive's functions on lent words.
+
+use reference::sheet::Sheet;
+
+/// A call that takes a sheet and a trace, and answers with one number.
+type OnSheet = unsafe extern "C" fn(
+    grade: u32,
+    cl: u32,
+    bl: u32,
+    organisation: u32,
+    period: u32,
+    rbd: u32,
+    rwd: u32,
+    wrd: u32,
+    rsc: u32,
+    refc: u32,
+    words: *const u32,
+    length: usize,
+) -> u64;
+
+mod archive {
+    macro_rules! on_sheet {
+        ($($name:ident),*) => {
+            extern "C" {
+                $(pub fn $name(
+                    grade: u32,
+                    cl: u32,
+                    bl: u32,
+                    organisation: u32,
+                    period: u32,
+                    rbd: u32,
+                    rwd: u32,
+                    wrd: u32,
+                    rsc: u32,
+                    refc: u32,
+                    words: *const u32,
+                    length: usize,
+                ) -> u64;)*
+            }
+        };
+    }
+
+    on_sheet!(bulk_check, bulk_walk, bulk_walk_again);
+
+    extern "C" {
+        pub fn bulk_count(words: *const u32, length: usize, counts: *mut u32, room: usize) -> u32;
+    }
+}
+
+/// Makes a call on a lent trace.
+fn on_sheet(call: OnSheet, sheet: &Sheet, words: &[u32]) -> u64 {
+    let [grade, cl, bl, org, period, rbd, rwd, wrd, rsc, refc] = sheet.numbers();
+    let (start, length) = (words.as_ptr(), words.len());
+    // SAFETY: the words can be read while they are lent.
+    unsafe {
+        call(
+            grade, cl, bl, org, period, rbd, rwd, wrd, rsc, refc, start, length,
+        )
+    }
+}
+
+/// The whole check: 0 accepted, a refusal, or a breach.
+pub fn check(sheet: &Sheet, words: &[u32]) -> u64 {
+    on_sheet(archive::bulk_check, sheet, words)
+}
+
+/// What ends a fresh walk: 0 at its end, a refusal, or a breach.
+pub fn walk(sheet: &Sheet, words: &[u32]) -> u64 {
+    on_sheet(archive::bulk_walk, sheet, words)
+}
+
+/// The answer of one advance more after that.
+pub fn walk_again(sheet: &Sheet, words: &[u32]) -> u64 {
+    on_sheet(archive::bulk_walk_again, sheet, words)
+}
+
+/// Counts the commands into the room given: 0 or a refusal.
+pub fn count(words: &[u32], counts: &mut [u32]) -> u32 {
+    let (start, length) = (words.as_ptr(), words.len());
+    let (into, room) = (counts.as_mut_ptr(), counts.len());
+    // SAFETY: the words can be read and the room can be written while they are lent.
+    unsafe { archive::bulk_count(start, length, into, room) }
+}

@@ -1,0 +1,37 @@
+//! Compares the check, the walk and the tally on lent words with the reference implementation, on
+//! short traces and at the lengths where the refusals 24 and 30 begin.
+
+mod answers;
+mod call;
+mod cases;
+mod run;
+
+use reference::random::Random;
+use run::Run;
+use std::process::exit;
+use std::time::Instant;
+
+const SEED: u64 = 0x5EED_0009;
+
+fn main() {
+    let start = Instant::now();
+    let random = Random::new(SEED);
+    let mut run = Run::default();
+    cases::short(&mut run, &random);
+    cases::long(&mut run, &random);
+    let seconds = start.elapsed().as_secs_f64();
+    println!(
+        "bulk: seed {SEED:#x}, {} calls agree, {seconds:.1} s",
+        run.calls
+    );
+    let sound = run.coverage.report(&cases::promised());
+    println!(
+        "{}",
+        if sound {
+            "all agree"
+        } else {
+            "coverage not met"
+        }
+    );
+    exit(if sound { 0 } else { 1 });
+}

@@ -1,0 +1,104 @@
+//! One comparison under way: calls the archive's functions, compares, counts.
+
+use crate::answers::{breach_of, check_number, count_numbers, walk_numbers};
+use crate::call;
+use reference::coverage::Coverage;
+use reference::past::Past;
+use reference::sheet::Sheet;
+use std::process::exit;
+
+/// What stands in a place of the counts before a call.
+const UNTOUCHED: u32 = 7_777_777;
+
+/// What was called and met so far.
+#[derive(Default)]
+pub struct Run {
+    pub coverage: Coverage,
+    pub calls: u64,
+}
+
+impl Run {
+    /// Compares all calls on a trace, which is left as it was. Answers are counted by its length's name.
+    pub fn all<P: Past>(&mut self, sheet: &Sheet, words: &[u32], length: &str) {
+        let before = words.to_vec();
+        self.check::<P>(sheet, words, length);
+        self.walks::<P>(sheet, words, length);
+        self.count(words, length);
+        if before != words {
+            fail(
+                "all calls",
+                &before,
+                "the same words after them",
+                "other words",
+            );
+        }
+    }
+
+    /// Compares the whole check.
+    pub fn check<P: Past>(&mut self, sheet: &Sheet, words: &[u32], length: &str) {
+        let wanted = check_number::<P>(sheet, words);
+        self.settle("check", length, words, wanted, call::check(sheet, words));
+    }
+
+    /// Compares the walk and the advance after it.
+    pub fn walks<P: Past>(&mut self, sheet: &Sheet, words: &[u32], length: &str) {
+        let (stop, again) = walk_numbers::<P>(sheet, words);
+        self.settle("walk", length, words, stop, call::walk(sheet, words));
+        let got = call::walk_again(sheet, words);
+        self.settle("walk again", length, words, again, got);
+    }
+
+    /// Compares the tally, with room for the five counts, for more and for less.
+    fn count(&mut self, words: &[u32], length: &str) {
+        let (wanted, five) = count_numbers(words);
+        for room in [5, 6, 9, 4, 0] {
+            let mut counts = vec![UNTOUCHED; room];
+            let got = call::count(words, &mut counts);
+            let mut left = vec![UNTOUCHED; room];
+            if room >= 5 {
+                left[..5].copy_from_slice(&five);
+            }
+            if counts != left {
+                fail("count", words, &format!("{left:?}"), &format!("{counts:?}"));
+            }
+            self.settle("count", length, words, wanted.into(), got.into());
+        }
+    }
+
+    /// Compares two answers and counts them. A difference ends the program.
+    fn settle(&mut self, call: &str, length: &str, words: &[u32], wanted: u64, got: u64) {
+        if wanted != got {
+            fail(call, words, &meaning(wanted), &meaning(got));
+        }
+        self.calls += 1;
+        let name = match breach_of(wanted) {
+            Some((clock, number)) if clock + 1 == words.len() as u64 => {
+                format!("breach {number} at the last clock")
+            }
+            Some((_, number)) => format!("breach {number}"),
+            None => meaning(wanted),
+        };
+        self.coverage.meet(&format!("{call}, {length}: {name}"));
+    }
+}
+
+/// An answer in words.
+fn meaning(answer: u64) -> String {
+    match (answer, breach_of(answer)) {
+        (_, Some((clock, number))) => format!("breach {clock} {number}"),
+        (0, None) => "no fault".to_string(),
+        (number, None) => format!("refused {number}"),
+    }
+}
+
+/// Reports a difference, keeps the trace and ends the program.
+fn fail(call: &str, words: &[u32], wanted: &str, got: &str) -> ! {
+    println!("FAILED: {call} on {} words", words.len());
+    println!("  reference: {wanted}");
+    println!("  archive:   {got}");
+    let kept = std::env::temp_dir().join("bulk-difference.bin");
+    let bytes = reference::script::bytes(words);
+    std::fs::write(&kept, bytes).expect("the difference can be written");
+    println!("  trace: {}", kept.display());
+    exit(1)
+}

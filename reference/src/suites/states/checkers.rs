@@ -1,0 +1,150 @@
+//! Cases for the steps and walks of a checker.
+
+use super::forge::{
+    around, bare_checker, damage, delay_events, put_events, some_clock, spoil_sheet, CLOCKS,
+};
+use super::run::CheckerRun;
+use crate::both::Both;
+use crate::checker::Checker;
+use crate::coverage::Coverage;
+use crate::random::Random;
+use crate::script::{Call, Packer};
+use crate::sheet::Sheet;
+use crate::state::{self, CheckerNumbers, BREACH, CLOCK, EVENT, OPEN};
+use crate::suites::{checker, near, pool, trace};
+use crate::summary::EVENTS;
+use crate::word::{CS, DESL, FN, PD};
+
+/// The longest trace that a walk is made over.
+const WALKED: u32 = 1_100;
+
+/// Every ground alone and its edges: each event at and around each clock, with and without an open
+/// pair; then the same beside a recorded breach, and on a sheet that is refused.
+pub fn edges(random: &Random, packer: &mut Packer, coverage: &mut Coverage) {
+    for clock in CLOCKS {
+        for first in [DESL, PD, PD | FN, 0, u32::MAX] {
+            let bare = bare_checker(&pool::sheet(random), clock, first);
+            beside(random, packer, coverage, bare);
+            for event in EVENT..EVENT + EVENTS {
+                for value in around(clock) {
+                    let mut numbers = bare_checker(&pool::sheet(random), clock, first);
+                    numbers[event] = value;
+                    beside(random, packer, coverage, numbers);
+                }
+            }
+        }
+    }
+}
+
+/// A state as it is; in breach; on a refused sheet; with more events late.
+fn beside(random: &Random, packer: &mut Packer, coverage: &mut Coverage, numbers: CheckerNumbers) {
+    trial(random, packer, coverage, vec![], &numbers);
+    let mut breached = numbers;
+    put_breach(random, &mut breached);
+    trial(random, packer, coverage, vec![], &breached);
+    let mut worse = if random.once_in(2) { numbers } else { breached };
+    match random.below(3) {
+        0 => delay_events(random, &mut worse),
+        _ => spoil_sheet(random, &mut worse),
+    }
+    trial(random, packer, coverage, vec![], &worse);
+}
+
+/// Records a breach of any number at any clock.
+fn put_breach(random: &Random, numbers: &mut CheckerNumbers) {
+    let clock = numbers[CLOCK];
+    numbers[BREACH] = random.pick(&[0, clock, clock.wrapping_add(1), u32::MAX]);
+    numbers[BREACH + 1] = random.pick(&[1, 12, 13, 23, u32::MAX, 0]);
+}
+
+/// A state at random, with events near the edges of the rules, seldom with a fault.
+pub fn forged(random: &Random, packer: &mut Packer, coverage: &mut Coverage) {
+    let sheet = pool::sheet(random);
+    let kind = trace::some_kind(random);
+    let operation = pool::operation(random, &sheet, kind, random.below(8));
+    let (first, _) = pool::noisy(random, &sheet, kind, &operation);
+    let first = random.pick(&[first, first, first | CS, random.bits()]);
+    let mut numbers = bare_checker(&sheet, some_clock(random), first);
+    put_events(random, &sheet, &mut numbers);
+    match random.below(12) {
+        0 => delay_events(random, &mut numbers),
+        1 => spoil_sheet(random, &mut numbers),
+        2 => put_breach(random, &mut numbers),
+        3 => damage(random, &mut numbers),
+        _ => {}
+    }
+    trial(random, packer, coverage, vec![], &numbers);
+}
+
+/// A state that steps over a trace made, then with one number changed.
+pub fn near_real(random: &Random, packer: &mut Packer, coverage: &mut Coverage) {
+    let sheet = pool::sheet(random);
+    let mut words = near::near_words(random, &mut Coverage::default(), sheet, random.bits());
+    words.truncate(random.below(words.len() as u32 + 1) as usize);
+    let mut checker = Checker::<Both>::fresh(sheet);
+    for &word in &words {
+        checker.step(word);
+    }
+    let mut before = vec![pool::config(&sheet)];
+    before.extend(checker::steps(&words));
+    before.push(Call::ShowChecker);
+    let mut numbers = state::checker_numbers(&checker);
+    if !random.once_in(8) {
+        damage(random, &mut numbers);
+    }
+    trial(random, packer, coverage, before, &numbers);
+}
+
+/// A word that may close the pair that is open, or may open one.
+fn some_word(random: &Random, sheet: &Sheet, first: u32) -> u32 {
+    let fit = match sheet.refusal() {
+        None => *sheet,
+        Some(_) => pool::sheet(random),
+    };
+    let kind = trace::some_kind(random);
+    let operation = pool::operation(random, &fit, kind, random.below(8));
+    let (opening, closing) = pool::noisy(random, &fit, kind, &operation);
+    let likely = if first & CS == 0 { closing } else { opening };
+    match random.below(16) {
+        0 => random.pick(&[0, u32::MAX, PD, DESL | 1 << 20]),
+        1 => random.bits(),
+        2 => DESL,
+        _ => likely,
+    }
+}
+
+/// A trace whose word at the clock is this one; it may also end before that.
+fn walked(random: &Random, clock: u32, word: u32) -> Vec<u32> {
+    if clock >= WALKED {
+        return vec![word; random.below(3) as usize];
+    }
+    let mut words = vec![random.pick(&[DESL, 0]); clock as usize];
+    if !random.once_in(5) {
+        words.push(word);
+        words.resize(words.len() + random.below(3) as usize, 0);
+    }
+    words
+}
+
+/// Steps and advances from a state on, in either order.
+fn trial(
+    random: &Random,
+    packer: &mut Packer,
+    coverage: &mut Coverage,
+    before: Vec<Call>,
+    numbers: &CheckerNumbers,
+) {
+    let sheet = state::checker(numbers).sheet;
+    let mut run = CheckerRun::put(coverage, &pool::sheet(random), before, numbers);
+    let word = || some_word(random, &sheet, numbers[OPEN]);
+    let walk_first = random.once_in(2);
+    if walk_first {
+        run.advance(walked(random, numbers[CLOCK], word()));
+    }
+    run.step(word());
+    if !walk_first {
+        run.advance(walked(random, run.clock(), word()));
+    }
+    run.step(word());
+    run.send(packer);
+}

@@ -1,0 +1,198 @@
+//! Cases for the offers and ticks of a controller.
+
+use super::forge::{
+    around, bare_controller, damage, delay_events, put_events, put_place, some_clock, some_request,
+    spoil_sheet, CLOCKS,
+};
+use super::run::{ControllerRun, Form};
+use crate::both::Both;
+use crate::controller::Controller;
+use crate::coverage::Coverage;
+use crate::pair::{column_pins, Request};
+use crate::random::Random;
+use crate::script::{Call, Packer};
+use crate::sheet::Sheet;
+use crate::state::{self, ControllerNumbers, EVENT, OPEN};
+use crate::suites::pool;
+use crate::summary::EVENTS;
+
+/// Counts on either side of the capacity.
+const COUNTS: [u32; 7] = [0, 1, 2, 15, 16, 17, u32::MAX];
+
+/// Both forms of a call.
+const FORMS: [Form; 2] = [Form::Value, Form::Lent];
+
+/// What is as great as allowed and must be met.
+pub fn promised() -> Vec<String> {
+    let mut promised = Vec::new();
+    for call in ["offer", "lent offer", "tick", "lent tick"] {
+        promised.push(format!("{call}: sixteen wait"));
+        promised.extend(Request::FIELDS.map(|name| format!("{call}: {name} at its greatest")));
+    }
+    promised
+}
+
+/// Every ground alone and its edges; then the same on a sheet that is refused.
+pub fn edges(random: &Random, packer: &mut Packer, coverage: &mut Coverage) {
+    for clock in CLOCKS {
+        for opened in 0..5 {
+            let count = random.pick(&[1, 3, 16]);
+            let bare = || bare_controller(random, &pool::sheet(random), (clock, opened, count));
+            beside(random, packer, coverage, bare());
+            for event in EVENT..EVENT + EVENTS {
+                for value in around(clock) {
+                    let mut numbers = bare();
+                    numbers[event] = value;
+                    beside(random, packer, coverage, numbers);
+                }
+            }
+        }
+    }
+    for sheet in pool::parts().iter().filter(|sheet| sheet.cl == 4) {
+        queues(random, packer, coverage, sheet);
+    }
+}
+
+/// Every count with every kind of open pair, and each field of some waiting places out of its range.
+fn queues(random: &Random, packer: &mut Packer, coverage: &mut Coverage, sheet: &Sheet) {
+    for count in COUNTS {
+        for opened in 0..5 {
+            let clock = some_clock(random).max(1);
+            let bare = bare_controller(random, sheet, (clock, opened, count));
+            beside(random, packer, coverage, bare);
+        }
+        for place in [0, 1, 7, 14, 15] {
+            for field in 1..6 {
+                let clock = some_clock(random).max(1);
+                let opened = random.pick(&[0, 0, 1, 2, 3, 4]);
+                let mut numbers = bare_controller(random, sheet, (clock, opened, count));
+                put_place(&mut numbers, place, unfit_request(random, sheet, field));
+                beside(random, packer, coverage, numbers);
+            }
+        }
+    }
+}
+
+/// A request with one field out of its range, mostly by one.
+fn unfit_request(random: &Random, sheet: &Sheet, field: usize) -> [u32; 6] {
+    let mut request = some_request(random, sheet).numbers();
+    let write = request[0] != 0;
+    let beyond = if sheet.bl == 4 { 5 } else { 4 };
+    request[field] = match field {
+        1 => 8,
+        2 => 16_384,
+        3 => column_pins(sheet) + 1,
+        _ if !write || (field == 5 && sheet.org == 8) => 1,
+        _ => random.pick(&[0, 3, beyond]),
+    };
+    if random.once_in(8) {
+        request[field] = random.pick(&[u32::MAX, request[field] | 1 << 31]);
+    }
+    request
+}
+
+/// A state as it is; with more events late, or on a refused sheet.
+fn beside(
+    random: &Random,
+    packer: &mut Packer,
+    coverage: &mut Coverage,
+    mut numbers: ControllerNumbers,
+) {
+    trial(random, packer, coverage, vec![], &numbers);
+    if random.once_in(2) {
+        return;
+    }
+    match random.below(3) {
+        0 => delay_events(random, &mut numbers),
+        _ => spoil_sheet(random, &mut numbers),
+    }
+    trial(random, packer, coverage, vec![], &numbers);
+}
+
+/// A state at random, with events near the edges of the rules, seldom with a fault.
+pub fn forged(random: &Random, packer: &mut Packer, coverage: &mut Coverage) {
+    let sheet = pool::sheet(random);
+    let count = random.pick(&[0, 1, 1, 2, random.below(17), 16]);
+    let opened = random.pick(&[0, 0, 0, 1, 2, 3, 4]);
+    let clock = some_clock(random);
+    let mut numbers = bare_controller(random, &sheet, (clock, opened, count));
+    put_events(random, &sheet, &mut numbers);
+    match random.below(12) {
+        0 => delay_events(random, &mut numbers),
+        1 => spoil_sheet(random, &mut numbers),
+        2 => {
+            let place = random.below(16) as usize;
+            let field = random.between(1, 5) as usize;
+            put_place(&mut numbers, place, unfit_request(random, &sheet, field));
+        }
+        3 => damage_but_open(random, &mut numbers),
+        _ => {}
+    }
+    trial(random, packer, coverage, vec![], &numbers);
+}
+
+/// Changes one number; that of the open pair stays one that is listed.
+fn damage_but_open(random: &Random, numbers: &mut ControllerNumbers) {
+    damage(random, numbers);
+    if numbers[OPEN] > 4 {
+        numbers[OPEN] = random.below(5);
+    }
+}
+
+/// A state that offers and ticks made, then with one number changed.
+pub fn near_real(random: &Random, packer: &mut Packer, coverage: &mut Coverage) {
+    let sheet = pool::sheet(random);
+    let mut controller = Controller::<Both>::fresh(sheet);
+    let mut before = vec![pool::config(&sheet)];
+    for _ in 0..random.below(24) {
+        if random.once_in(2) {
+            let request = some_request(random, &sheet);
+            let _ = controller.offer(request);
+            before.push(Call::Offer(request.numbers()));
+        } else {
+            let count = random.pick(&[1, 1, 2, 3, 10, 60, 200]);
+            let _ = (0..count).try_for_each(|_| controller.tick().map(drop));
+            before.push(Call::TickLent(count));
+        }
+    }
+    before.push(Call::ShowController);
+    let mut numbers = state::controller_numbers(&controller);
+    if !random.once_in(8) {
+        damage_but_open(random, &mut numbers);
+    }
+    trial(random, packer, coverage, before, &numbers);
+}
+
+/// A request for an offer, seldom out of its ranges.
+fn some_offer(random: &Random, sheet: &Sheet) -> [u32; 6] {
+    let fit = match sheet.refusal() {
+        None => *sheet,
+        Some(_) => pool::sheet(random),
+    };
+    match random.below(4) {
+        0 => unfit_request(random, &fit, random.between(1, 5) as usize),
+        _ => some_request(random, &fit).numbers(),
+    }
+}
+
+/// Every call of either form from a state on, in any order.
+fn trial(
+    random: &Random,
+    packer: &mut Packer,
+    coverage: &mut Coverage,
+    before: Vec<Call>,
+    numbers: &ControllerNumbers,
+) {
+    let mut run = ControllerRun::put(coverage, &pool::sheet(random), before, numbers);
+    let sheet = run.controller.sheet;
+    let start = random.below(6);
+    for turn in start..start + 6 {
+        let form = FORMS[turn as usize % 2];
+        match turn % 6 {
+            0 | 1 => run.offer(form, some_offer(random, &sheet)),
+            2 | 3 => run.tick_once(form),
+            _ => run.tick(form, random.pick(&[1, 2, 5, 30])),
+        }
+    }
+    run.send(packer);
+}

@@ -1,0 +1,155 @@
+//! Numbers for states: whole ones, single events, damage.
+
+use crate::judge::LONGEST;
+use crate::pair::{column_pins, Request};
+use crate::random::Random;
+use crate::sheet::Sheet;
+use crate::state::{CheckerNumbers, ControllerNumbers, CLOCK, COUNT, EVENT, OPEN, PLACE};
+use crate::suites::pool;
+use crate::summary::EVENTS;
+
+/// Clocks on either side of each edge.
+pub const CLOCKS: [u32; 8] = [0, 1, 2, 40, LONGEST - 1, LONGEST, LONGEST + 1, u32::MAX];
+
+/// Clocks of an event around that of its state, and the greatest.
+pub fn around(clock: u32) -> [u32; 4] {
+    [
+        clock.wrapping_sub(1),
+        clock,
+        clock.wrapping_add(1),
+        u32::MAX,
+    ]
+}
+
+/// A checker that remembers nothing.
+pub fn bare_checker(sheet: &Sheet, clock: u32, first: u32) -> CheckerNumbers {
+    let mut numbers = [0; 35];
+    numbers[..10].copy_from_slice(&sheet.numbers());
+    numbers[CLOCK] = clock;
+    numbers[OPEN] = first;
+    numbers
+}
+
+/// A controller that remembers nothing, with requests waiting that fit and others behind them.
+pub fn bare_controller(
+    random: &Random,
+    sheet: &Sheet,
+    (clock, opened, count): (u32, u32, u32),
+) -> ControllerNumbers {
+    let mut numbers = [0; 130];
+    numbers[..10].copy_from_slice(&sheet.numbers());
+    numbers[CLOCK] = clock;
+    numbers[OPEN] = opened;
+    numbers[COUNT] = count;
+    let dirt = random.once_in(2);
+    for place in 0..16 {
+        let request = match (place < count as usize, dirt) {
+            (true, _) => some_request(random, sheet).numbers(),
+            (false, true) => std::array::from_fn(|_| random.bits()),
+            (false, false) => Request::VACANT.numbers(),
+        };
+        put_place(&mut numbers, place, request);
+    }
+    numbers
+}
+
+/// Puts a request's numbers into a place.
+pub fn put_place(numbers: &mut ControllerNumbers, place: usize, request: [u32; 6]) {
+    let at = PLACE + 6 * place;
+    numbers[at..at + 6].copy_from_slice(&request);
+}
+
+/// A request that fits the sheet, at times with every field at its greatest.
+pub fn some_request(random: &Random, sheet: &Sheet) -> Request {
+    let mut request = pool::request(random, sheet, random.once_in(2), random.below(8));
+    if random.once_in(6) {
+        (request.bank, request.row) = (7, 16_383);
+        request.column = column_pins(sheet);
+        request.lower = if request.write { sheet.bl } else { 0 };
+        request.upper = if sheet.org == 16 { request.lower } else { 0 };
+    }
+    request
+}
+
+/// A clock: early, near the spacings of refreshes, near the last one, or any.
+pub fn some_clock(random: &Random) -> u32 {
+    match random.below(8) {
+        0 => random.below(4),
+        1 | 2 => random.between(1, 80),
+        3 | 4 => random.between(190, 420),
+        5 => random.between(420, 1_100),
+        6 => random.between(LONGEST - 3, LONGEST),
+        _ => random.below(LONGEST),
+    }
+}
+
+/// The clock of an event: never, or before the state's by about one of the spacings.
+fn some_event(random: &Random, sheet: &Sheet, clock: u32) -> u32 {
+    let spacings = [sheet.rc(), sheet.rwd, sheet.wrd, sheet.rsc, sheet.refc];
+    let long = [200, sheet.d() - sheet.rc(), sheet.d(), sheet.w()];
+    let before = match random.below(7) {
+        0 | 1 => return 0,
+        2 => random.between(1, 12),
+        3 | 4 => random.pick(&spacings) + random.below(4),
+        5 => random.pick(&long) + random.below(4) - 1,
+        _ => random.below(clock + 1),
+    };
+    clock.saturating_sub(before.max(1))
+}
+
+/// Puts events into a state with an accepted sheet, all of them before its clock.
+pub fn put_events(random: &Random, sheet: &Sheet, numbers: &mut [u32]) {
+    let clock = numbers[CLOCK];
+    for event in &mut numbers[EVENT..EVENT + EVENTS] {
+        *event = some_event(random, sheet, clock);
+    }
+    // Mostly in order, as refreshes are.
+    if !random.once_in(4) {
+        numbers[EVENT + 13..EVENT + EVENTS].sort_by(|a, b| b.cmp(a));
+    }
+}
+
+/// Puts a number of the sheet out of its range, at times two of them.
+pub fn spoil_sheet(random: &Random, numbers: &mut [u32]) {
+    for _ in 0..random.between(1, 2) {
+        let (field, value) = random.pick(&[
+            (0, 38),
+            (1, 6),
+            (2, 3),
+            (3, 4),
+            (4, 8501),
+            (4, 3749),
+            (5, 8),
+            (6, 0),
+            (7, 8),
+            (8, 16),
+            (9, 64),
+            (9, 14),
+        ]);
+        numbers[field] = value;
+    }
+}
+
+/// Puts some events not before the clock.
+pub fn delay_events(random: &Random, numbers: &mut [u32]) {
+    let clock = numbers[CLOCK];
+    for _ in 0..random.between(1, 3) {
+        let event = EVENT + random.below(EVENTS as u32) as usize;
+        numbers[event] = clock.saturating_add(random.below(3)).max(1);
+    }
+}
+
+/// Changes one number of a state: by one, to about the clock, or to any.
+pub fn damage(random: &Random, numbers: &mut [u32]) {
+    let place = random.below(numbers.len() as u32) as usize;
+    let (clock, old) = (numbers[CLOCK], numbers[place]);
+    numbers[place] = random.pick(&[
+        old.wrapping_add(1),
+        old.wrapping_sub(1),
+        clock,
+        clock.wrapping_sub(1),
+        0,
+        old ^ 1 << random.below(32),
+        random.bits(),
+    ]);
+}

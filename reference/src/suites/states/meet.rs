@@ -1,0 +1,71 @@
+//! What of the refusals stands at a call on a state: counted by the one that is answered, by those
+//! that it comes ahead of, and 19 by its ground.
+
+use crate::coverage::Coverage;
+use crate::ground::Ground;
+use crate::sheet::Sheet;
+use crate::summary::NAMES;
+
+/// The refusals of a state in their order: its sheet's own, then 19.
+pub fn of_state(sheet: &Sheet, grounds: &[Ground]) -> Vec<String> {
+    let mut standing: Vec<String> = sheet.refusal().iter().map(u32::to_string).collect();
+    if !grounds.is_empty() {
+        standing.push("19".to_string());
+    }
+    standing
+}
+
+/// Counts a call at which these answers stand, in their order.
+pub fn meet(coverage: &mut Coverage, call: &str, grounds: &[Ground], standing: &[String]) {
+    let Some((answer, others)) = standing.split_first() else {
+        return coverage.meet(&format!("{call}: not refused"));
+    };
+    coverage.meet(&format!("{call}: {answer}"));
+    for other in others {
+        coverage.meet(&format!("{call}: {answer} ahead of {other}"));
+    }
+    if answer == "19" {
+        coverage.meet(&match grounds {
+            [only] => format!("{call}: 19 for {only} alone"),
+            _ => format!("{call}: 19 for several grounds"),
+        });
+    }
+}
+
+/// Counts the events that stand one clock before that of a call, which is as late as allowed.
+pub fn meet_latest(coverage: &mut Coverage, call: &str, clock: u32, events: &[(&str, u32)]) {
+    for (name, event) in events {
+        if *event != 0 && event + 1 == clock {
+            coverage.meet(&format!("{call}: {name} one clock before"));
+        }
+    }
+}
+
+/// Each of the grounds alone, and each event as late as allowed.
+pub fn promised_grounds(call: &str, grounds: &[Ground]) -> Vec<String> {
+    let alone = |ground| format!("{call}: 19 for {ground} alone");
+    let mut promised: Vec<String> = grounds.iter().map(alone).collect();
+    let latest = |event| format!("{call}: {event} one clock before");
+    promised.extend(NAMES.map(latest));
+    promised.push(format!("{call}: 19 for several grounds"));
+    promised.push(format!("{call}: not refused"));
+    promised
+}
+
+/// Each of the answers in this order and the sheet's three, and each ahead of each later one.
+pub fn promised_order(call: &str, order: &[&str]) -> Vec<String> {
+    let mut promised = Vec::new();
+    let ahead = |first: &str, later: &[&str]| -> Vec<String> {
+        let pair = |other| format!("{call}: {first} ahead of {other}");
+        later.iter().map(pair).collect()
+    };
+    for number in ["20", "21", "22"] {
+        promised.push(format!("{call}: {number}"));
+        promised.extend(ahead(number, order));
+    }
+    for (i, answer) in order.iter().enumerate() {
+        promised.push(format!("{call}: {answer}"));
+        promised.extend(ahead(answer, &order[i + 1..]));
+    }
+    promised
+}

@@ -1,0 +1,218 @@
+//! A checker or a controller that was put into a state, and the calls made on it since. Each call is
+//! made here too, so that what stands at the next one can be counted.
+
+use super::meet::{meet, meet_latest, of_state};
+use crate::both::Both;
+use crate::checker::Checker;
+use crate::controller::Controller;
+use crate::coverage::Coverage;
+use crate::judge::LONGEST;
+use crate::pair::Request;
+use crate::past::Past;
+use crate::queue::CAPACITY;
+use crate::script::{Call, Packer};
+use crate::sheet::Sheet;
+use crate::state::{self, CheckerNumbers, ControllerNumbers};
+use crate::suites::pool;
+use crate::summary::NAMES;
+use crate::walk::Walk;
+use crate::word::{FN, PD};
+
+/// The events of a past by name.
+fn events(past: &Both) -> Vec<(&'static str, u32)> {
+    NAMES.into_iter().zip(past.summary().events()).collect()
+}
+
+/// What shows that the configuration stayed: a mode that one CL and BL fit, and the other state.
+fn ending(other: Call) -> [Call; 2] {
+    [Call::ReadPair(PD | FN, PD | 0x42), other]
+}
+
+/// A checker that was put, and its calls.
+pub struct CheckerRun<'a> {
+    checker: Checker<Both>,
+    calls: Vec<Call>,
+    coverage: &'a mut Coverage,
+}
+
+impl<'a> CheckerRun<'a> {
+    /// On a configuration of its own, after other calls.
+    pub fn put(
+        coverage: &'a mut Coverage,
+        sheet: &Sheet,
+        before: Vec<Call>,
+        numbers: &CheckerNumbers,
+    ) -> CheckerRun<'a> {
+        let mut calls = vec![pool::config(sheet)];
+        calls.extend(before);
+        calls.push(Call::PutChecker(Box::new(*numbers)));
+        calls.push(Call::ShowChecker);
+        CheckerRun {
+            checker: state::checker(numbers),
+            calls,
+            coverage,
+        }
+    }
+
+    /// Counts what stands at a call, in the order in which it is answered.
+    fn count(&mut self, call: &str, at_end: bool) {
+        let (clock, grounds) = (self.checker.past.clock(), self.checker.grounds());
+        let mut standing = of_state(&self.checker.sheet, &grounds);
+        if standing.is_empty() {
+            meet_latest(self.coverage, call, clock, &events(&self.checker.past));
+        }
+        let further = [
+            (at_end, "end"),
+            (self.checker.in_breach(), "23"),
+            (clock == LONGEST, "24"),
+        ];
+        let stands = further.into_iter().filter(|(stands, _)| *stands);
+        standing.extend(stands.map(|(_, answer)| answer.to_string()));
+        meet(self.coverage, call, &grounds, &standing);
+    }
+
+    /// Steps by a word.
+    pub fn step(&mut self, word: u32) {
+        self.count("step", false);
+        self.checker.step(word);
+        self.calls.push(Call::Step { count: 1, word });
+        self.calls.push(Call::ShowChecker);
+    }
+
+    /// Advances a walk over the words that has reached the checker.
+    pub fn advance(&mut self, words: Vec<u32>) {
+        self.count("walk", words.len() <= self.checker.past.clock() as usize);
+        let mut walk = Walk::at(self.checker.clone(), &words);
+        walk.advance();
+        self.checker = walk.checker;
+        self.calls.push(Call::Advance(words));
+        self.calls.push(Call::ShowChecker);
+    }
+
+    /// The clock that it has reached.
+    pub fn clock(&self) -> u32 {
+        self.checker.past.clock()
+    }
+
+    /// Sends the calls as a group.
+    pub fn send(mut self, packer: &mut Packer) {
+        self.calls.extend(ending(Call::ShowController));
+        packer.group(&self.calls);
+    }
+}
+
+/// The calls on a controller, by value and lent.
+#[derive(Clone, Copy)]
+pub enum Form {
+    Value,
+    Lent,
+}
+
+/// A controller that was put, and its calls.
+pub struct ControllerRun<'a> {
+    pub controller: Controller<Both>,
+    calls: Vec<Call>,
+    coverage: &'a mut Coverage,
+}
+
+impl<'a> ControllerRun<'a> {
+    /// On a configuration of its own, after other calls.
+    pub fn put(
+        coverage: &'a mut Coverage,
+        sheet: &Sheet,
+        before: Vec<Call>,
+        numbers: &ControllerNumbers,
+    ) -> ControllerRun<'a> {
+        let mut calls = vec![pool::config(sheet)];
+        calls.extend(before);
+        calls.push(Call::PutController(Box::new(*numbers)));
+        calls.extend([Call::ShowController, Call::Waiting]);
+        ControllerRun {
+            controller: state::controller(numbers).expect("a kind of open pair"),
+            calls,
+            coverage,
+        }
+    }
+
+    /// Counts what stands at a call: the state's refusals, then those of the call itself.
+    fn count(&mut self, call: &str, further: &[(bool, &str)]) {
+        let (clock, grounds) = (self.controller.past.clock(), self.controller.grounds());
+        let mut standing = of_state(&self.controller.sheet, &grounds);
+        if standing.is_empty() {
+            meet_latest(self.coverage, call, clock, &events(&self.controller.past));
+            self.count_fullest(call);
+        }
+        let stands = further.iter().filter(|(stands, _)| *stands);
+        standing.extend(stands.map(|(_, answer)| answer.to_string()));
+        meet(self.coverage, call, &grounds, &standing);
+    }
+
+    /// Counts sixteen waiting, and waiting fields at their greatest.
+    fn count_fullest(&mut self, call: &str) {
+        let queue = &self.controller.queue;
+        if queue.count as usize == CAPACITY {
+            self.coverage.meet(&format!("{call}: sixteen wait"));
+        }
+        for request in queue.waiting() {
+            let greatest = request.greatest(&self.controller.sheet);
+            for name in greatest {
+                self.coverage
+                    .meet(&format!("{call}: {name} at its greatest"));
+            }
+        }
+    }
+
+    /// Offers a request of these numbers.
+    pub fn offer(&mut self, form: Form, numbers: [u32; 6]) {
+        let request = Request::from_numbers(numbers);
+        let unfit = !request.fits(&self.controller.sheet);
+        let full = self.controller.queue.count as usize >= CAPACITY;
+        let (call, made) = match form {
+            Form::Value => ("offer", Call::Offer(numbers)),
+            Form::Lent => ("lent offer", Call::OfferLent(numbers)),
+        };
+        self.count(call, &[(unfit, "26"), (full, "27")]);
+        let _ = self.controller.offer(request);
+        self.calls.extend([made, Call::ShowController]);
+    }
+
+    /// One tick, its word shown even if it is refused.
+    pub fn tick_once(&mut self, form: Form) {
+        let made = match form {
+            Form::Value => Call::TickOnce,
+            Form::Lent => Call::TickOnceLent,
+        };
+        self.tick_by(form, made, 1);
+    }
+
+    /// Ticks so many times.
+    pub fn tick(&mut self, form: Form, count: u32) {
+        let made = match form {
+            Form::Value => Call::Tick(count),
+            Form::Lent => Call::TickLent(count),
+        };
+        self.tick_by(form, made, count);
+    }
+
+    /// Ticks by a call that ticks so many times, up to the first that is refused.
+    fn tick_by(&mut self, form: Form, made: Call, count: u32) {
+        let call = match form {
+            Form::Value => "tick",
+            Form::Lent => "lent tick",
+        };
+        for _ in 0..count {
+            let last = self.controller.past.clock() == LONGEST;
+            self.count(call, &[(last, "24")]);
+            if self.controller.tick().is_err() {
+                break;
+            }
+        }
+        self.calls.extend([made, Call::ShowController]);
+    }
+
+    /// Sends the calls as a group.
+    pub fn send(mut self, packer: &mut Packer) {
+        self.calls.extend(ending(Call::ShowChecker));
+        packer.group(&self.calls);
+    }
+}

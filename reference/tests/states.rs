@@ -1,0 +1,193 @@
+//! Refusal 19 on each of its grounds, the order of the refusals, and states put and shown.
+
+use reference::both::Both;
+use reference::checker::{Checker, Step};
+use reference::controller::Controller;
+use reference::coverage::Coverage;
+use reference::judge::LONGEST;
+use reference::pair::Request;
+use reference::past::Past;
+use reference::random::Random;
+use reference::sheet::SHEET_E;
+use reference::state::{
+    self, CheckerNumbers, ControllerNumbers, BREACH, CLOCK, COUNT, EVENT, OPEN, PLACE,
+};
+use reference::suites::{near, pool};
+use reference::summary::EVENTS;
+use reference::walk::Walk;
+use reference::word::{DESL, PD};
+
+const READ: [u32; 6] = [0, 7, 16_383, 255, 0, 0];
+const WRITE: [u32; 6] = [1, 0, 0, 0, 4, 1];
+
+/// A checker on sheet E that remembers nothing.
+fn checker(clock: u32, first: u32) -> CheckerNumbers {
+    let mut numbers = [0; 35];
+    numbers[..10].copy_from_slice(&SHEET_E.numbers());
+    (numbers[CLOCK], numbers[OPEN]) = (clock, first);
+    numbers
+}
+
+/// A controller on sheet E with reads and writes waiting in turn, in all places.
+fn controller(clock: u32, opened: u32, count: u32) -> ControllerNumbers {
+    let mut numbers = [0; 130];
+    numbers[..33].copy_from_slice(&checker(clock, opened)[..33]);
+    numbers[COUNT] = count;
+    for place in 0..16 {
+        let request = if place % 2 == 0 { READ } else { WRITE };
+        numbers[PLACE + 6 * place..PLACE + 6 * place + 6].copy_from_slice(&request);
+    }
+    numbers
+}
+
+fn step(numbers: &CheckerNumbers) -> Step {
+    state::checker(numbers).step(DESL)
+}
+
+/// What a tick and an offer are refused for; neither changes the state then.
+fn refusals(numbers: &ControllerNumbers) -> [Option<u32>; 2] {
+    let mut put = state::controller(numbers).unwrap();
+    let refusals = [
+        put.tick().err(),
+        put.offer(Request::from_numbers(READ)).err(),
+    ];
+    if refusals.iter().all(|r| r.is_some()) {
+        assert_eq!(state::controller_numbers(&put), *numbers);
+    }
+    refusals
+}
+
+#[test]
+fn clocks_of_a_checker() {
+    assert_eq!(step(&checker(LONGEST - 1, DESL)), Step::Pass);
+    assert_eq!(step(&checker(LONGEST, DESL)), Step::Refused(24));
+    assert_eq!(step(&checker(LONGEST + 1, DESL)), Step::Refused(19));
+    assert_eq!(step(&checker(0, PD)), Step::Refused(19));
+    assert_eq!(
+        step(&checker(1, PD)),
+        Step::Breach {
+            clock: 1,
+            number: 5
+        }
+    );
+}
+
+#[test]
+fn events_not_before_the_clock() {
+    for event in EVENT..EVENT + EVENTS {
+        for (value, late) in [
+            (0, false),
+            (49, false),
+            (50, true),
+            (51, true),
+            (u32::MAX, true),
+        ] {
+            let mut numbers = checker(50, DESL);
+            numbers[event] = value;
+            assert_eq!(
+                step(&numbers) == Step::Refused(19),
+                late,
+                "{event} at {value}"
+            );
+            let mut numbers = controller(50, 0, 0);
+            numbers[event] = value;
+            let refused = if late { Some(19) } else { None };
+            assert_eq!(refusals(&numbers), [refused; 2], "{event} at {value}");
+        }
+    }
+}
+
+#[test]
+fn what_waits_and_what_is_open() {
+    assert_eq!(refusals(&controller(1, 4, 1)), [None; 2]);
+    assert_eq!(refusals(&controller(1, 4, 0)), [Some(19); 2]);
+    assert_eq!(refusals(&controller(0, 4, 1)), [Some(19); 2]);
+    assert_eq!(refusals(&controller(0, 1, 0)), [Some(19); 2]);
+    assert_eq!(refusals(&controller(LONGEST, 0, 16)), [Some(24), Some(27)]);
+    assert_eq!(refusals(&controller(LONGEST, 0, 17)), [Some(19); 2]);
+    for (place, field, value) in [(0, 1, 8), (1, 2, 16_384), (2, 3, 256), (3, 4, 3), (4, 5, 1)] {
+        let mut numbers = controller(9, 0, 5);
+        numbers[PLACE + 6 * place + field] = value;
+        assert_eq!(refusals(&numbers), [Some(19); 2]);
+        numbers[COUNT] = place as u32;
+        assert_eq!(refusals(&numbers), [None; 2]);
+    }
+}
+
+#[test]
+fn refusals_in_their_order() {
+    let mut numbers = checker(LONGEST, DESL);
+    let walk = |numbers: &CheckerNumbers| Walk::at(state::checker(numbers), &[]).advance();
+    assert_eq!((step(&numbers), walk(&numbers)), (Step::Refused(24), None));
+    numbers[BREACH + 1] = 1;
+    assert_eq!((step(&numbers), walk(&numbers)), (Step::Refused(23), None));
+    numbers[EVENT] = LONGEST;
+    assert_eq!(step(&numbers), Step::Refused(19));
+    assert_eq!(walk(&numbers), Some(Step::Refused(19)));
+    numbers[9] = 64;
+    assert_eq!(step(&numbers), Step::Refused(22));
+    assert_eq!(walk(&numbers), Some(Step::Refused(22)));
+}
+
+/// A request that leaves: the others move up, their last place is vacant, those behind stay.
+#[test]
+fn places_of_the_queue() {
+    let mut numbers = controller(9, 4, 3);
+    let mut put = state::controller(&numbers).unwrap();
+    put.tick().unwrap();
+    let vacant = [0; 6];
+    numbers[PLACE..PLACE + 18].copy_from_slice(&[WRITE, READ, vacant].concat());
+    assert_eq!(state::controller_numbers(&put)[PLACE..], numbers[PLACE..]);
+    put.offer(Request::from_numbers(WRITE)).unwrap();
+    numbers[PLACE + 12..PLACE + 18].copy_from_slice(&WRITE);
+    assert_eq!(state::controller_numbers(&put)[COUNT], 3);
+    assert_eq!(state::controller_numbers(&put)[PLACE..], numbers[PLACE..]);
+}
+
+/// A checker that is put where a run stands goes on as the run does, which has its whole history.
+#[test]
+fn a_checker_put_goes_on_as_the_run() {
+    let random = Random::new(5);
+    for way in 0..600 {
+        let sheet = pool::sheet(&random);
+        let words = near::near_words(&random, &mut Coverage::default(), sheet, way);
+        let turn = random.below(words.len() as u32 + 1) as usize;
+        let mut run = Checker::<Both>::fresh(sheet);
+        words[..turn].iter().for_each(|&word| {
+            run.step(word);
+        });
+        let numbers = state::checker_numbers(&run);
+        let mut put = state::checker(&numbers);
+        assert_eq!(state::checker_numbers(&put), numbers);
+        for &word in &words[turn..] {
+            assert_eq!(put.step(word), run.step(word));
+        }
+        assert_eq!(state::checker_numbers(&put), state::checker_numbers(&run));
+    }
+}
+
+/// The same of a controller.
+#[test]
+fn a_controller_put_goes_on_as_the_run() {
+    let random = Random::new(6);
+    for _ in 0..200 {
+        let sheet = pool::sheet(&random);
+        let mut run = Controller::<Both>::fresh(sheet);
+        let mut put = run.clone();
+        let turn = random.below(900);
+        while run.past.clock() < 1_000 {
+            if run.past.clock() == turn {
+                put = state::controller(&state::controller_numbers(&run)).unwrap();
+            }
+            if random.once_in(8) {
+                let request = pool::request(&random, &sheet, random.once_in(2), random.below(8));
+                assert_eq!(put.offer(request), run.offer(request));
+            }
+            assert_eq!(put.tick(), run.tick());
+        }
+        assert_eq!(
+            state::controller_numbers(&put),
+            state::controller_numbers(&run)
+        );
+    }
+}
