@@ -18,7 +18,7 @@ use Rattle.command.specs.declared.operation.Request.{Request}
 use Rattle.rules.specs.History.{nothing}
 use Rattle.rules.specs.Rules.{breachAt}
 use Rattle.rules.specs.Verdict.{Judgement, accepted, lead, judge, checkOf, checkBytesOf}
-use Rattle.protocol.specs.Cases.{At, words, startUpPairs, readAt}
+use Rattle.model.specs.CheckerCases.{At, words, startUpPairs, readAt}
 use Rattle.protocol.specs.Steps.{verdictOutcome, stepped, fresh, clockFits, stepOf}
 use Rattle.protocol.specs.declared.checker.Breach.{Breach}
 use Rattle.protocol.specs.declared.checker.Checker.{Checker}

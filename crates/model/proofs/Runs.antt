@@ -8,7 +8,7 @@ use native.Mathlib.Omega.{arith}
 use borrow.Author.Tests.{lt-ltb, ltb-true, ltb-false}
 use lib.ListN.{length, length-append}
 use lib.Dec.{ltb}
-use Rattle.config.specs.Outcome.{value}
+use Rattle.config.specs.Outcome.{value, refused}
 use Rattle.config.specs.Configuration.{timingOf}
 use Rattle.config.specs.declared.Config.{Config}
 use Rattle.config.specs.declared.Timing.{Timing}
@@ -51,6 +51,10 @@ tick-past t x = by (x .opened)
 -- the bound of an accepted request's closing word
 abbrev pub closingBound : Timing → Accepted → ℕ
 closingBound t a = bound t (a .ticks) (a .ahead)
+
+-- a refused call adds nothing
+nothing-added : {A : Type 0} (n : ℕ) (a : A) (all : List A) → all ++ ifAccepted (refused n) a ≡ all
+nothing-added n a all = append-nil all
 
 module _ (c : Config) (t : Timing) (is : timingOf c ≡ value t) (f : Figures t) where
   pub record AsPrescribed (r : Run) (k : Prescribed) : Type 0 where
@@ -103,7 +107,7 @@ module _ (c : Config) (t : Timing) (is : timingOf c ≡ value t) (f : Figures t)
           let over = ltb-false (length (k .words)) 16777216 e in
           let at = h .clock in
           let low = h .limit in
-          rw (tick-ends c t is f (r .controller) (k .course) (h .bounds) (h .represents) (h .going) (omega arith), append-nil (r .words)) h
+          rw (tick-ends c t is f (r .controller) (k .course) (h .bounds) (h .represents) (h .going) (omega arith), nothing-added 24 0 (r .words)) h
 
   -- an offer
   taken : (r : Run) (k : Prescribed) (q : Request) → AsPrescribed r k → requestFits t q ≡ true → length (k .course .waiting) < 16
@@ -138,6 +142,9 @@ module _ (c : Config) (t : Timing) (is : timingOf c ≡ value t) (f : Figures t)
   pub offer-prescribed : (r : Run) (k : Prescribed) (q : Request) → AsPrescribed r k → AsPrescribed (called r (offer q)) (followed t k (offer q))
   offer-prescribed r k q h = by (requestFits t q) (ltb (length (k .course .waiting)) 16) refl refl
     where
+      a : Accepted
+      a = record { request = q; ticks = length (r .words); ahead = length (held (r .controller)) }
+
       is-offer : offerOf (r .controller) q ≡ refusing c t is f (r .controller) (k .course .waiting) q
       is-offer =
           let at = h .clock in
@@ -147,8 +154,8 @@ module _ (c : Config) (t : Timing) (is : timingOf c ≡ value t) (f : Figures t)
       by : (b d : Bool) → requestFits t q ≡ b → ltb (length (k .course .waiting)) 16 ≡ d
           → AsPrescribed (called r (offer q)) (cond (b && d) (record { words = k .words; course = laid.queued (k .course) q }) k)
       by true true e g = taken r k q h e (ltb-true (length (k .course .waiting)) 16 g)
-      by true false e g = rw (is-offer, e, g, append-nil (r .accepted)) h
-      by false d e g = rw (is-offer, e, append-nil (r .accepted)) h
+      by true false e g = rw (is-offer, e, g, nothing-added 27 a (r .accepted)) h
+      by false d e g = rw (is-offer, e, nothing-added 26 a (r .accepted)) h
 
   pub all-prescribed : (r : Run) (k : Prescribed) (calls : List Call) → AsPrescribed r k → AsPrescribed (runFrom r calls) (prescribedFrom t k calls)
   all-prescribed r k [] h = h

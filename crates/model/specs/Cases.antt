@@ -9,7 +9,7 @@ use Rattle.command.specs.declared.operation.Request.{Request}
 use Rattle.config.specs.Configuration.{institute, derived}
 use Rattle.config.specs.declared.Timing.{Timing}
 use Rattle.command.specs.Pins.{level}
-use Rattle.protocol.specs.Cases.{Row, row, agree, words, startUpPairs, readAt, checkerCases}
+use Rattle.model.specs.CheckerCases.{Row, row, agree, words, startUpPairs, readAt, checkerCases}
 use Rattle.model.specs.Laid.{Course, start, tick, queued}
 
 -- the next words are these

@@ -1,4 +1,3 @@
--- The paper's cases; what the contracts say of the checker's states (Steps); and what joins these to the published rules (Refinement).
-pub mod Cases
+-- What the contracts say of the checker's states (Steps), and what joins these to the published rules (Refinement).
 pub mod Steps
 pub mod Refinement

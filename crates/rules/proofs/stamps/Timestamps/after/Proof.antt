@@ -1,7 +1,17 @@
 -- By whether a pair is open. Assumes nothing.
+use mathlib.Core.Path.{_≡_, sym, _∙_, ap}
+use mathlib.Core.Bool.{true, false, not}
 use borrow.Author.Needs.{needs}
+use Rattle.command.specs.Pairs.{opens}
 use Rattle.rules.proofs.stamps.Timestamps.after.Statement.{statement}
 use Rattle.rules.proofs.stamps.Timestamps.after.Tie as tie
+
+-- what the test tells
+opened : (c : tie.Then1) → opens (c .before .before .args .first) ≡ true
+opened c = ap not (sym (c .before .high .ensures)) ∙ c .if1 .taken
+
+idle : (c : tie.Else1) → opens (c .before .before .args .first) ≡ false
+idle c = ap not (sym (c .before .high .ensures)) ∙ c .if1 .left
 
 high-requires : tie.Need-high-requires
 high-requires c κs = search needs
@@ -10,10 +20,10 @@ remembered-requires : tie.Need-remembered-requires
 remembered-requires c κs = search needs
 
 returns : tie.Need-returns
-returns c = rw (c .remembered .ensures, ← c .before .before .high .ensures, c .before .if1 .taken)
+returns c = rw (c .remembered .ensures, opened (c .before))
 
 returns-2 : tie.Need-returns-2
-returns-2 c = rw (← c .before .high .ensures, c .if1 .left)
+returns-2 c = rw (idle c)
 
 pub after-spec : {M : Type 1} → statement M
 after-spec = tie.close (tie.spec high-requires remembered-requires returns returns-2)

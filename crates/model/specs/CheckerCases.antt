@@ -1,4 +1,4 @@
--- "Clocks on either edge, sheet E": the published cases as one table, and one test that is computed over all of it.
+-- Cases b to h of the published ones, and the figures of sheet E: the rows of a table. Cases puts case a before them, and computes all.
 use Prim.Native.Nat.{ℕ, _+_, _-_, _*_}
 use mathlib.Core.Bool.{Bool, true, _&&_}
 use mathlib.Core.List.{List, [], _∷_, _++_}
