@@ -1,27 +1,32 @@
--- Which words open a pair, and what the pair of two words is.
+-- Which words open a pair, and what the pair of two words is (RULES 2.2).
 use Prim.Native.Nat.{ℕ}
 use mathlib.Core.Bool.{Bool, not, _&&_}
 use Rattle.command.specs.Pins.{high}
 
--- "CS low with no pair open opens a pair: FN high RDA, FN low WRA."
+-- CS is low: where no pair is open, the word opens one
 abbrev pub opens : ℕ → Bool
 opens first = not (high 18 first)
 
+-- FN is high: the first word of a pair is an RDA, and otherwise a WRA
 abbrev pub rda : ℕ → Bool
 rda first = high 17 first
 
--- "The next word closes it: CS high is LAL; CS low after RDA is MRS, after WRA is REF. So the pairs are read, write, mode and refresh."
+-- CS is high: the closing word is a LAL, and otherwise an MRS after RDA and a REF after WRA
 abbrev pub lal : ℕ → Bool
 lal second = high 18 second
 
+-- RDA and LAL
 abbrev pub isRead : ℕ → ℕ → Bool
 isRead first second = rda first && lal second
 
+-- WRA and LAL
 abbrev pub isWrite : ℕ → ℕ → Bool
 isWrite first second = not (rda first) && lal second
 
+-- RDA and MRS
 abbrev pub isMode : ℕ → ℕ → Bool
 isMode first second = rda first && not (lal second)
 
+-- WRA and REF
 abbrev pub isRefresh : ℕ → ℕ → Bool
 isRefresh first second = not (rda first) && not (lal second)

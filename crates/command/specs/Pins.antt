@@ -1,4 +1,4 @@
--- The pins of a word: bits 0 to 13 are A0 to A13, 14 to 16 are BA0 to BA2, 17 FN, 18 CS, 19 PD; high = 1.
+-- The pins of a word by their bits (RULES 2.1): A0 to A13 from 0 on, BA0 to BA2 from 14 on, FN 17, CS 18, PD 19. A high pin is a 1.
 use Prim.Native.Nat.{ℕ, _/_, _%_, _*_, _^_}
 use mathlib.Core.Bool.{Bool, true, false, not, _&&_}
 use lib.Dec.{eqb, leb}
@@ -19,6 +19,7 @@ highBy pin w = not (eqb pin 0) && eqb (w / pin % 2) 1
 abbrev pub put : ℕ → ℕ → ℕ → ℕ
 put n width v = v % 2 ^ width * 2 ^ n
 
+-- a level as a number
 abbrev pub level : Bool → ℕ
 level true = 1
 level false = 0
@@ -27,6 +28,6 @@ level false = 0
 abbrev pub drive : ℕ → Bool → ℕ
 drive n b = level b * 2 ^ n
 
--- "A bit above 19 is set."
+-- a bit above PD is set: rule 1 (RULES 4.1)
 abbrev pub strayBit : ℕ → Bool
 strayBit w = leb (2 ^ 20) w

@@ -1,7 +1,7 @@
 // What a pair of words stands for.
 
-// A read or a write of one burst. A read has 0 words in both lanes; a write has 1, 2 or (at BL 4) 4 in each lane, and by 8
-// none in the upper.
+// A read or a write of one burst. `lower` and `upper` are the words that each lane writes: 0 where nothing is written, by a read, or by 8
+// in the upper.
 pub struct Request {
     pub write: bool,
     pub bank: u32,

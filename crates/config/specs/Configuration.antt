@@ -1,4 +1,4 @@
--- The sheet: the range of each field, and the figures that an accepted one yields.
+-- The sheet (RULES 1): the range of each number, and the figures that an accepted sheet yields.
 use Prim.Native.Nat.{ℕ, _+_, _-_, _/_, max}
 use mathlib.Core.Bool.{Bool, cond, _&&_, _||_}
 use mathlib.Core.List.{List, [], _∷_}
@@ -16,25 +16,27 @@ oneOf a b n = eqb n a || eqb n b
 abbrev pub within : ℕ → ℕ → ℕ → Bool
 within low high n = leb low n && leb n high
 
--- "Grade 37 or 50; CL 3, 4 or 5; BL 2 or 4; organisation 16 or 8"
+-- grade, CL, BL and organisation are each one that there is (RULES 1.1)
 abbrev pub partFits : Config → Bool
 partFits c = oneOf 37 50 (c .grade) && within 3 5 (c .cl) && oneOf 2 4 (c .bl) && oneOf 16 8 (c .organisation)
 
--- "Least period by grade and CL is a table": a row for each grade, a column for each CL
+-- the least periods in picoseconds (RULES 1.2): a row for each grade, a column for each CL
 abbrev pub leastPeriods : List (List ℕ)
 leastPeriods = (5500 ∷ 4500 ∷ 3750 ∷ []) ∷ (6000 ∷ 5500 ∷ 5000 ∷ []) ∷ []
 
+-- the row of a grade
 abbrev pub gradeRow : ℕ → ℕ
 gradeRow grade = cond (eqb grade 37) 0 1
 
+-- the entry of a grade and a CL
 abbrev pub leastPeriod : ℕ → ℕ → ℕ
 leastPeriod grade cl = getD (getD leastPeriods (gradeRow grade) []) (cl - 3) 0
 
--- "The greatest is 8500."
+-- the period is at least the table's and at most 8500 (RULES 1.1, 1.2)
 abbrev pub periodFits : Config → Bool
 periodFits c = within (leastPeriod (c .grade) (c .cl)) 8500 (c .period .0)
 
--- "RBD 2 to 7, RWD 1 to 7, WRD 1 to 7, RSC 2 to 15, REFC 15 to 63"
+-- each of the five counts of clocks is in its range (RULES 1.1)
 abbrev pub countsFit : Config → Bool
 countsFit c =
     within 2 7 (c .rbd .0)
@@ -43,15 +45,15 @@ countsFit c =
     && within 2 15 (c .rsc .0)
     && within 15 63 (c .refc .0)
 
--- "RC is 5, 5, 6 for CL 3, 4, 5"
+-- RC by CL: the spacing of two reads or writes of one bank (RULES 1.3)
 abbrev pub rcOf : ℕ → ℕ
 rcOf cl = cond (eqb cl 5) 6 5
 
--- "S is the largest of RC, RBD, RWD + 1, WRD + 1."
+-- S, the longest spacing of two reads or writes (RULES 1.3); RWD and WRD count from a LAL, so 1 is added to them
 abbrev pub spacingOf : ℕ → ℕ → ℕ → ℕ → ℕ
 spacingOf rc rbd rwd wrd = max (max rc rbd) (max (rwd + 1) (wrd + 1))
 
--- WL = CL − 1; D, here refi; W, here window; S, here spacing
+-- the figures of a sheet (RULES 1.3): wl is WL, refi D, window W and spacing S
 abbrev pub derived : Config → Timing
 derived c =
     record {
@@ -70,11 +72,11 @@ derived c =
       spacing = spacingOf (rcOf (c .cl)) (c .rbd .0) (c .rwd .0) (c .wrd .0);
     }
 
--- "Sheet: 20 grade, CL, BL or organisation; 21 period; 22 a count out of its range."
+-- the figures of a sheet, or refusal 20, 21 or 22, tried in this order (RULES 6.20 to 6.22)
 abbrev pub timingOf : Config → Outcome Timing
 timingOf c = require (partFits c) 20 (require (periodFits c) 21 (require (countsFit c) 22 (value (derived c))))
 
--- "Sheet E, the institute's own: grade 37, CL 4, BL 4, by 16, 5000 ps, RBD 2, RWD 3, WRD 1, RSC 7, REFC 18."
+-- sheet E (RULES 1.4)
 abbrev pub institute : Config
 institute =
     record {

@@ -1,4 +1,4 @@
--- What the contracts of this crate say, in the order of the paper's section "The sheet".
+-- What the contracts of this crate say: outcomes, the numbers of refusals, and the sheet.
 pub mod Outcome
 pub mod Numbers
 pub mod Configuration

@@ -1,4 +1,4 @@
--- The paper's number of each refusal, and what each answer of this crate is in the paper's terms.
+-- The number of each refusal, and what an answer of this crate is in the paper's terms.
 use Prim.Native.Nat.{ℕ}
 use Rattle.config.specs.Outcome.{Outcome, value, refused}
 use Rattle.config.specs.declared.refusal.Refusal.{Refusal}
@@ -7,7 +7,7 @@ use Rattle.config.specs.declared.Timing.{Timing}
 use Rattle.config.specs.declared.TimingAnswer.{TimingAnswer}
 use Rattle.config.specs.declared.TimingAnswer.the-variants.{Accepted, Refused}
 
--- by the numbers of "Refusals by operation"
+-- the number behind the dot in section 6 of RULES
 abbrev pub refusalNumber : Refusal → ℕ
 refusalNumber State = 19
 refusalNumber Part = 20
@@ -22,6 +22,7 @@ refusalNumber NotAPair = 28
 refusalNumber PartialWord = 29
 refusalNumber TooLong = 30
 
+-- the answer of `Config::timing`
 abbrev pub timingOutcome : TimingAnswer → Outcome Timing
 timingOutcome (Accepted t) = value t
 timingOutcome (Refused r) = refused (refusalNumber r)

@@ -9,7 +9,7 @@ ghost use Prim.Native.Nat.{_≤_, _<_, max};
 ghost use Rattle.config.specs.Configuration.{leastPeriod, partFits, periodFits, countsFit, derived, timingOf, institute};
 ghost use Rattle.config.specs.Numbers.{timingOutcome};
 
-// A time in whole picoseconds. A period and a count of clocks are never taken for one another.
+// A time in whole picoseconds: a type of its own, so that it is never taken for a count of clocks.
 pub struct Picoseconds(pub u32);
 
 // A count of clocks.

@@ -3,7 +3,7 @@ ghost use mathlib.Core.Path.{_≡_};
 ghost use Rattle.config.specs.Numbers.{refusalNumber};
 
 pub enum Refusal {
-    // The state has one of the paper's five faults, which no call gives it: 19.
+    // The state has one of the faults of RULES 6.19, which no call gives it: 19.
     State,
     // Grade, CL, BL or organisation: 20.
     Part,
@@ -30,7 +30,7 @@ pub enum Refusal {
 }
 
 impl Refusal {
-    // The paper's number.
+    // Its number in section 6 of RULES.
     pub fn number(self) -> u32
         ensures { λ n. ⌜ n ≡ refusalNumber self ⌝ }
     {

@@ -1,5 +1,5 @@
--- "The tally counts the closed pairs of each of the four kinds and the DESL words, at most 65,536 words, read by the word rules above
--- without judging."
+-- The counts of a trace (RULES 9.1), the paper's tally: words and pairs are told apart as for the rules (RULES 2.2), and nothing is
+-- judged.
 use Prim.Native.Nat.{ℕ, _+_}
 use mathlib.Core.Bool.{Bool, cond, not}
 use mathlib.Core.List.{List, [], _∷_}
@@ -20,11 +20,12 @@ abbrev pub count : (ClosedPair → Bool) → List ClosedPair → ℕ
 count f [] = 0
 count f (p ∷ ps) = level (f p) + count f ps
 
--- "CS high with no pair open is DESL."
+-- 1 for DESL, which is CS high where no pair is open (RULES 2.2)
 abbrev pub deslAt : Option ℕ → ℕ → ℕ
 deslAt none w = level (not (opens w))
 deslAt (some first) w = 0
 
+-- the DESL words after a past
 abbrev pub deslsFrom : Past → List ℕ → ℕ
 deslsFrom p [] = 0
 deslsFrom p (w ∷ ws) = deslAt (p .opened) w + deslsFrom (extend p w) ws
@@ -41,7 +42,7 @@ countsOf words =
       desls = deslsFrom nothing words;
     }
 
--- what a refused tally has
+-- the counts of a refused call: all are 0 (RULES 7.2)
 abbrev pub noCounts : CommandCounts
 noCounts = record { reads = 0; writes = 0; modes = 0; refreshes = 0; desls = 0 }
 
@@ -50,10 +51,11 @@ pub record Counting : Type 0 where
   pub number : ℕ
   pub counts : CommandCounts
 
+-- the answer of `count_commands`
 abbrev pub countingOutcome : CountsAnswer → Counting
 countingOutcome (Counted c) = record { number = 0; counts = c }
 countingOutcome (Refused r c) = record { number = refusalNumber r; counts = c }
 
--- "Tally: 30 too long, all counts 0."
+-- the counts of at most 65,536 words; of more refusal 30, and counts that are all 0 (RULES 6.30, 7.2)
 abbrev pub countingOf : List ℕ → Counting
 countingOf words = cond (leb (length words) 65536) (record { number = 0; counts = countsOf words }) (record { number = 30; counts = noCounts })

@@ -1,10 +1,11 @@
--- What one word adds, given the first word of the open pair, or a word with CS high where none is open.
+-- For private functions alone: one turn of the loop.
 use Prim.Native.Nat.{ℕ, _+_, _≤_}
 use mathlib.Core.Bool.{_&&_}
 use Rattle.command.specs.Pins.{high, level}
 use Rattle.command.specs.Pairs.{opens, isRead, isWrite, isMode, isRefresh}
 use Rattle.counts.specs.declared.CommandCounts.{CommandCounts}
 
+-- what one word adds, given the first word of the open pair, or a word with CS high where none is open
 abbrev pub counted : CommandCounts → ℕ → ℕ → CommandCounts
 counted c first w =
     record {

@@ -12,7 +12,7 @@ ghost use lib.ListN.{length};
 ghost use Rattle.counts.specs.Counts.{countsOf, countingOutcome, countingOf};
 ghost use Rattle.counts.specs.Turn.{counted, Below};
 
-// Closed pairs of each of the four kinds, and DESL words.
+// How many reads, writes, modes and refreshes were closed, and how many words were DESL.
 pub struct CommandCounts {
     pub reads: u32,
     pub writes: u32,

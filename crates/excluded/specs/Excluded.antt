@@ -1,4 +1,5 @@
--- "What a reviewer will try, in order": what each wrong program would give, and that a contract, or demand 3, excludes it.
+-- The wrong programs of the paper's section "What a reviewer will try, in order": what each would give, and that a contract, or demand 3,
+-- excludes it.
 use Prim.Native.Nat.{ℕ, zero, suc, _+_, _≤_, _<_}
 use mathlib.Core.Path.{_≡_}
 use mathlib.Core.Bool.{true, false}
@@ -37,89 +38,100 @@ use Rattle.borrowed.specs.Excluded.{Never}
 use Rattle.cursor.specs.Walk.{progressOutcome, moved, MovePromised}
 use Rattle.cursor.specs.declared.Progress.{Progress}
 
--- On sheet E: words of start-up and DESL alone, and the run that gives them with a bank 0 read accepted before the first tick.
+-- words of start-up and DESL alone, on sheet E
 abbrev pub idleWords : ℕ → List ℕ
 idleWords desls = words 0 startUpPairs desls
 
+-- a run that gives them, with a bank 0 read accepted before the first tick
 abbrev pub idleRun : ℕ → Controller → Run
 idleRun desls s = record { words = idleWords desls; accepted = record { request = bank0Read; ticks = 0; ahead = 0 } ∷ []; controller = s }
 
--- On sheet E: reads of bank 0, each of the next row; and words that put out the first of sixteen again and again.
+-- n reads of bank 0, each of the next row
 abbrev pub readsFrom : ℕ → ℕ → List Request
 readsFrom row zero = []
 readsFrom row (suc n) = record { write = false; bank = 0; row = row; column = 0; lower = 0; upper = 0 } ∷ readsFrom (row + 1) n
 
+-- a read of bank 0, row and column 0, n times, each RC of sheet E after the last
 abbrev pub firstAgain : ℕ → ℕ → List At
 firstAgain clock zero = []
 firstAgain clock (suc n) = readAt clock 0 ∷ firstAgain (clock + 5) n
 
+-- words that put out the first of sixteen reads again and again, on sheet E
 abbrev pub fakedWords : List ℕ
 fakedWords = words 0 (startUpPairs ++ firstAgain 201 16) 0
 
+-- a run that gives them
 abbrev pub fakedRun : List Accepted → Controller → Run
 fakedRun all s = record { words = fakedWords; accepted = all; controller = s }
 
--- By one sentence of demand 3 each, whatever the others say.
+-- wrong controllers: each by one sentence of demand 3, whatever the others say, or by the contract of one call
 pub record Controllers : Type 0 where
-  -- "First a controller that plays only start-up and DESL: the clock bound of demand 3 rejects it." The read's bound is clock 229. A pair
-  -- that opens there would be in time, so the words are rejected from the next clock on: whatever the calls were and the controller holds.
+  -- one that gives start-up and DESL alone, by the clock bound. The read's bound is clock 229. A pair that opens there would be in time,
+  -- so the words are rejected from the next clock on: whatever the calls were and the controller holds.
   pub only-start-up : (desls : ℕ) (calls : List Call) (s : Controller) → 231 ≤ length (idleWords desls)
       → Prompt (derived institute) calls (idleRun desls s) → ⊥
   -- so with any timing and any words that have no read or write pair
   pub nothing-out : (t : Timing) (calls : List Call) (r : Run) (a : Accepted) (newer : List Accepted) → r .accepted ≡ a ∷ newer
       → starts (pairsOf (r .words)) ≡ [] → latestStart t a + 1 < length (r .words) → Prompt t calls r → ⊥
-  -- "Then one that takes sixteen requests, puts out the first and fakes the rest: rejected by field-for-field equality." The words break no
-  -- rule.
+  -- one that accepts sixteen requests and puts out the first in place of each, by the requests field for field
   pub faked-rest : (all : List Accepted) (s : Controller) → taken (fakedRun all s) ≡ readsFrom 0 16
       → InOrder (derived institute) (fakedRun all s) → ⊥
+  -- the words of that one break no rule
   pub faked-sound : judge (derived institute) fakedWords ≡ accepted
-  -- so with any timing, if the n-th pair is read to another request than the n-th that was accepted, in whatever field; or if one is lost
+  -- so with any timing, if the n-th pair is read to another request than the n-th that was accepted, in whatever field
   pub another-request : (t : Timing) (r : Run) (n : ℕ) → n < length (putOut t r)
       → (getD (putOut t r) n vacant ≡ getD (taken r) n vacant → ⊥) → InOrder t r → ⊥
+  -- so if a request is lost
   pub request-lost : (t : Timing) (r : Run) → length (putOut t r) + length (held (r .controller)) < length (taken r) → InOrder t r → ⊥
-  -- "An offer that says 27 with a place open, or 26 to all, or a tick that says 24 before its clock is reached": of any state, and of either
-  -- form of the call
+  -- an offer that refuses 27 with a place open, and one that refuses 26 to a request in range: of any state, and of either form of the
+  -- call
   pub offer-27 : (s after : Controller) (q : Request) → s .count < 16 → Never s (offer q) (CallAnswer.Refused QueueFull) 0 after
   pub offer-26 : (s after : Controller) (q : Request) (t : Timing) → timingOf (s .config) ≡ value t → requestFits t q ≡ true
       → Never s (offer q) (CallAnswer.Refused Field) 0 after
+  -- a tick that refuses 24 before its clock
   pub tick-24 : (s after : Controller) (word : ℕ) → s .clock < 16777216 → Never s tick (CallAnswer.Refused ClockLimit) word after
-  -- "their conditions above hold both ways": nor is a call accepted where its condition holds
+  -- and the other way round: none is accepted where its refusal is due
   pub offer-past-27 : (s after : Controller) (q : Request) → 16 ≤ s .count → Never s (offer q) CallAnswer.Accepted 0 after
   pub offer-past-26 : (s after : Controller) (q : Request) (t : Timing) → timingOf (s .config) ≡ value t → requestFits t q ≡ false
       → Never s (offer q) CallAnswer.Accepted 0 after
   pub tick-past-24 : (s after : Controller) (word : ℕ) → 16777216 ≤ s .clock → Never s tick CallAnswer.Accepted word after
 
--- no contract lets an examiner answer so: the check of words, the check of bytes, and a step that leaves the state `after`
+-- no contract lets the check of words answer so
 abbrev pub NoCheck : Config → List ℕ → Verdict → Type 0
 NoCheck c ws v = verdictOutcome v ≡ checkOf c ws → ⊥
 
+-- nor the check of bytes
 abbrev pub NoCheckBytes : Config → List ℕ → Verdict → Type 0
 NoCheckBytes c bytes v = verdictOutcome v ≡ checkBytesOf c bytes → ⊥
 
+-- nor a step that leaves the state `after`
 abbrev pub NoStep : Checker → ℕ → Verdict → Checker → Type 0
 NoStep s w v after = stepped (record { verdict = v; checker = after }) ≡ stepOf s w → ⊥
 
--- A check that judges every word by its first state accepts RDA and an MRS with A7 high, here as words and as bytes: breach 4 at clock 1.
+-- what a check would find that judges every word by its first state
 abbrev pub byFirstState : Timing → List ℕ → Judgement
 byFirstState t [] = accepted
 byFirstState t (w ∷ ws) = lead (breachAt t nothing w) 0 (byFirstState t ws)
 
+-- RDA and an MRS with A7 high: breach 4 at clock 1, which that check does not find
 abbrev pub wrongMode : List ℕ
 wrongMode = 0xA0000 ∷ 0x80080 ∷ []
 
+-- the same as bytes
 abbrev pub wrongModeBytes : List ℕ
 wrongModeBytes = 0x00 ∷ 0x00 ∷ 0x0A ∷ 0x00 ∷ 0x80 ∷ 0x00 ∷ 0x08 ∷ 0x00 ∷ []
 
+-- wrong examiners
 pub record Examiners : Type 0 where
-  -- "An examiner that always accepts": word 0 has PD low, so no trace that begins with it passes, and it passes at no state.
+  -- one that accepts everything: word 0 has PD low, so no trace that begins with it passes, and it passes at no state
   pub check-accepts : (c : Config) (ws : List ℕ) → NoCheck c (0 ∷ ws) Verdict.Accepted
   pub bytes-accept : (c : Config) (bytes : List ℕ) → NoCheckBytes c (0 ∷ 0 ∷ 0 ∷ 0 ∷ bytes) Verdict.Accepted
   pub step-accepts : (s after : Checker) → NoStep s 0 Verdict.Accepted after
-  -- "always breaches": DESL alone, none or any number of them, is in no breach.
+  -- one that finds a breach in everything: DESL alone, none or any number of them, is in no breach
   pub check-breaches : (c : Config) (n : ℕ) (b : Breach) → NoCheck c (replicate n 0xC0000) (Verdict.InBreach b)
   pub bytes-breach : (c : Config) (b : Breach) → NoCheckBytes c [] (Verdict.InBreach b)
   pub step-breaches : (c : Config) (b : Breach) (after : Checker) → NoStep (fresh c) 0xC0000 (Verdict.InBreach b) after
-  -- "or stays at its first state: demand 2 rejects each": at a word that passes the clock goes one on, and a breach changes the state too.
+  -- one that does not leave its first state: at a word that passes the clock goes one on, and a breach changes the state too
   pub step-stays : (s after : Checker) (w : ℕ) → (after .clock ≡ s .clock + 1 → ⊥) → NoStep s w Verdict.Accepted after
   pub step-stays-in-breach : (s : Checker) (w : ℕ) (b : Breach) → NoStep s w (Verdict.InBreach b) s
   pub check-stays : (c : Config) (t : Timing) (v : Verdict) → verdictOutcome v ≡ value (byFirstState t wrongMode) → NoCheck c wrongMode v
@@ -130,36 +142,41 @@ pub record Examiners : Type 0 where
 abbrev pub NoTally : List ℕ → CountsAnswer → Type 0
 NoTally ws a = countingOutcome a ≡ countingOf ws → ⊥
 
+-- wrong tallies
 pub record Tallies : Type 0 where
-  -- "A tally with invented counts: it equals the counts of the definition." Whichever of the counts differs, on any words; a refused one has
-  -- none.
+  -- one that invents counts: whichever of the counts differs, on any words
   pub invented : (ws : List ℕ) (c : CommandCounts) (count : CommandCounts → ℕ) → (count c ≡ count (countsOf ws) → ⊥)
       → NoTally ws (CountsAnswer.Counted c)
+  -- of a refused tally, whichever is not 0
   pub invented-refused : (ws : List ℕ) (why : Refusal) (c : CommandCounts) (count : CommandCounts → ℕ) → (count c ≡ count noCounts → ⊥)
       → NoTally ws (CountsAnswer.Refused why c)
-  -- so of one that counts nothing, where a read pair stands
+  -- so one that counts nothing, where a read pair stands
   pub read-not-counted : NoTally (0xA0000 ∷ 0xC0000 ∷ []) (CountsAnswer.Counted noCounts)
 
--- no contract lets an advance over ws answer so and leave the checker `after`: not those of `next_word` and `advance_through`, and not that of
--- `advance`, which promises the same of its checker
+-- no contract lets an advance over ws answer so and leave the checker `after`: not those of `next_word` and `advance_through`, and not
+-- that of `advance`, which promises the same of its checker
 abbrev pub NoMove : Checker → List ℕ → Progress → Checker → Type 0
 NoMove s ws p after = MovePromised s ws (record { progress = p; checker = after }) → ⊥
 
+-- wrong walks
 pub record Walks : Type 0 where
-  -- "A walk that says end before its words run out": of any state. Nor does it say anything else where they have.
+  -- one that says end while words are left: at any state
   pub end-early : (s after : Checker) (ws : List ℕ) → s .clock < length ws → NoMove s ws Progress.End after
+  -- one that says anything else where none is left, and the sheet and the state are not refused
   pub end-unsaid : (s after : Checker) (ws : List ℕ) (t : Timing) (p : Progress) → length ws ≤ s .clock → timingOf (s .config) ≡ value t
       → clockFits (s .clock) (s .first) (s .stamps) ≡ true → (p ≡ Progress.End → ⊥) → NoMove s ws p after
-  -- "its place is fixed": one on after a word that passed, and otherwise where it was
+  -- one that says that its word passed, and does not stand one on afterwards
   pub passed-place : (s after : Checker) (ws : List ℕ) → (after .clock ≡ s .clock + 1 → ⊥) → NoMove s ws Progress.Passed after
+  -- one that says anything else, and does not stand where it was
   pub other-place : (s after : Checker) (ws : List ℕ) (p : Progress) → (p ≡ Progress.Passed → ⊥) → (after .clock ≡ s .clock → ⊥)
       → NoMove s ws p after
 
--- "Then each published call is inspected: its contract gives the complete result". The contracts speak of an answer in the paper's terms.
--- Nothing is lost by that: two answers that are the same there are the same.
+-- no two arguments have one value
 abbrev pub Injective : {A B : Type 0} → (A → B) → Type 0
 Injective {A} f = (x y : A) → f x ≡ f y → x ≡ y
 
+-- calls whose contract would leave something open. The contracts speak of an answer in the paper's terms, and nothing is lost by that:
+-- two answers that are the same there are the same.
 pub record Answers : Type 0 where
   pub refusal : Injective refusalNumber
   -- `Config::timing`, `read_pair`, `write_pair`
@@ -179,6 +196,7 @@ pub record Answers : Type 0 where
   pub progress : Injective progressOutcome
   pub move : Injective moved
 
+-- the theorem
 pub record Excluded : Type 0 where
   pub controllers : Controllers
   pub examiners : Examiners

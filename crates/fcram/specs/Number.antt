@@ -1,15 +1,16 @@
--- "It gets one number: 0 for accepted, the refusal number, or the clock times 64 plus the breach number."
+-- The exam site's numbers: a sheet and an answer (RULES 1.1, 10.1).
 use Prim.Native.Nat.{ℕ, _+_, _*_}
 use Rattle.config.specs.Outcome.{Outcome, value, refused}
 use Rattle.config.specs.declared.Config.{Config}
 use Rattle.rules.specs.Verdict.{Judgement, accepted, breach}
 
+-- 0 for accepted, a refusal's number, or the clock of a breach times 64 plus its number (RULES 10.1)
 abbrev pub numberOf : Outcome Judgement → ℕ
 numberOf (value accepted) = 0
 numberOf (value (breach clock n)) = clock * 64 + n
 numberOf (refused n) = n
 
--- the configuration that the numbers make, in the order of the paper
+-- the configuration that the numbers make, in the order of RULES 1.1
 abbrev pub configOf : ℕ → ℕ → ℕ → ℕ → ℕ → ℕ → ℕ → ℕ → ℕ → ℕ → Config
 configOf grade cl bl organisation period rbd rwd wrd rsc refc =
     record {

@@ -3,6 +3,7 @@ use Prim.Native.Nat.{_<_}
 use Rattle.config.specs.Outcome.{Outcome, value, refused}
 use Rattle.rules.specs.Verdict.{Judgement, accepted, breach}
 
+-- a breach is at a clock of a trace, and its number is below 64
 abbrev pub Small : Outcome Judgement → Type 0
 Small (value accepted) = Unit {0}
 Small (value (breach clock n)) = (clock < 16777216) × (n < 64)

@@ -9,7 +9,7 @@ ghost use Rattle.protocol.specs.Steps.{verdictOutcome};
 ghost use Rattle.fcram.specs.Number.{numberOf, configOf};
 ghost use Rattle.fcram.specs.Range.{Small};
 
-// A verdict as one number: 0 for accepted, the refusal's number, or the clock times 64 plus the breach number.
+// A verdict as one number (RULES 10.1).
 fn number(verdict: Verdict) -> u32
     requires { ⌜ Small (verdictOutcome verdict) ⌝ }
     ensures { λ r. ⌜ r ≡ numberOf (verdictOutcome verdict) ⌝ }

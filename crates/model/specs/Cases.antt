@@ -1,5 +1,5 @@
--- "Clocks on either edge, sheet E": all eight cases as one table, and one test that is computed over all of it. Case a goes by the words
--- that are laid down.
+-- All eight cases of the paper's section "Clocks on either edge, sheet E" as one table, and one test that is computed over all of it.
+-- Case a goes by the words that are laid down.
 use Prim.Native.Nat.{ℕ}
 use mathlib.Core.Path.{_≡_, refl}
 use mathlib.Core.Bool.{Bool, true, false, cond}
@@ -17,16 +17,18 @@ abbrev pub gives : Timing → Course → List ℕ → Bool
 gives t c [] = true
 gives t c (w ∷ ws) = let r = tick t c in cond (eqb (r .word) w) (gives t (r .after) ws) false
 
+-- a read of bank 0, row and column 0
 abbrev pub bank0Read : Request
 bank0Read = record { write = false; bank = 0; row = 0; column = 0; lower = 0; upper = 0 }
 
+-- case a, then the figures of sheet E and cases b to h
 abbrev pub table : List Row
 table =
-    -- a. Fresh, a bank 0 read offered before the first tick: words A0000, 84000 at 0, 1; A0000, 80042 at 7, 8; 80000 at 14, 15, 32, 33; RDA
-    -- at 201. DESL stands at every other clock, 200 among them.
+    -- a (RULES 8.5): a fresh controller that was offered this read gives the start-up, RDA at 201, and at every other clock C0000, at 200
+    -- too
     row (level (gives (derived institute) (queued start bank0Read) (words 0 (startUpPairs ++ (readAt 201 0 ∷ [])) 1))) 1
-    -- b to h, after the institute's own figures
     ∷ checkerCases
 
+-- the table is as published
 pub cases : agree table ≡ true
 cases = refl

@@ -1,5 +1,5 @@
--- The word that the paper lays down for a tick: by the words given before, the requests waiting and the published rules, and not by
--- what a controller remembers.
+-- The word that is laid down for a tick (RULES 8.3, 8.4): by the words given before, the requests waiting and the published rules, and
+-- not by what a controller remembers.
 use Prim.Native.Nat.{ℕ, _+_, _-_}
 use mathlib.Core.Bool.{Bool, false, cond, _&&_}
 use mathlib.Core.List.{List, [], _∷_, _++_}
@@ -21,7 +21,7 @@ pub record Course : Type 0 where
   pub opened : Option Operation
   pub waiting : List Request
 
--- "A fresh controller has clock 0, no open pair, nothing waiting and no event remembered."
+-- a fresh controller: no word is given, no pair is open and nothing waits (RULES 8.1)
 abbrev pub start : Course
 start = record { past = nothing; opened = none; waiting = [] }
 
@@ -30,27 +30,27 @@ abbrev pub orElse : Option Operation → Option Operation → Option Operation
 orElse none other = other
 orElse (some o) other = some o
 
--- "the next of extended MRS, regular MRS, REF, REF not yet done". "MRS words have the free bits low."
+-- case 2 of RULES 8.3: the first that is missing of extended MRS, regular MRS and two REF words, the free bits of an MRS low
 abbrev pub startUp : List ClosedPair → Option Operation
 startUp ps =
     cond (leb 1 (length (closings wasExtended ps)))
     (cond (leb 1 (length (closings wasRegular ps))) (cond (leb 2 (length (closings wasRefresh ps))) none (some Refresh)) (some (Regular false)))
     (some (Extended 0))
 
--- "else, from clock r + D − RC on, r the last REF word, a refresh"
+-- case 3 of RULES 8.3: the clock is r + D − RC or later, where r is that of the last REF word
 abbrev pub refreshDue : Timing → Past → Bool
 refreshDue t p = leb (getD (closings wasRefresh (p .pairs)) 0 0 + t .refi - t .rc) (p .clock)
 
--- "else the oldest request"
+-- case 4 of RULES 8.3: the pair of the oldest request
 abbrev pub oldestOf : List Request → Option Operation
 oldestOf [] = none
 oldestOf (r ∷ rs) = some (Access r)
 
--- what comes next where no pair is open
+-- cases 2 to 4 in this order, where no pair is open
 abbrev pub candidate : Timing → Past → List Request → Option Operation
 candidate t p waiting = orElse (startUp (p .pairs)) (cond (refreshDue t p) (some Refresh) (oldestOf waiting))
 
--- "A pair opens only if its two words would breach nothing, otherwise DESL goes out."
+-- neither the first word, at this clock, nor the closing word, at the next, would breach a rule (RULES 8.4)
 abbrev pub breachless : Timing → Past → Pair → Bool
 breachless t p w = eqb (breachAt t p (w .first)) 0 && eqb (breachAt t (extend p (w .first)) (w .second)) 0
 
@@ -68,7 +68,7 @@ abbrev pub firstWord : Timing → Option Operation → ℕ
 firstWord t none = 0xC0000
 firstWord t (some o) = pairOf t o .first
 
--- "A request waits until its closing word is out."
+-- the requests that wait once the closing word of an operation is given: a request leaves with its own (RULES 8.2)
 abbrev pub leave : Operation → List Request → List Request
 leave (Access q) [] = []
 leave (Access q) (r ∷ rs) = rs
@@ -85,14 +85,15 @@ pub record Advance : Type 0 where
 abbrev pub giving : ℕ → Course → Option Operation → List Request → Advance
 giving w c opened waiting = record { word = w; after = record { past = extend (c .past) w; opened = opened; waiting = waiting } }
 
--- "Tick gives the word for its clock: the closing word if a pair is open", and otherwise the first word of the pair that opens, or DESL
+-- case 1 of RULES 8.3, the closing word of the pair that is open; else the first word of the one that opens, or DESL
 abbrev pub tickWith : Option Operation → Timing → Course → Advance
 tickWith (some o) t c = giving (pairOf t o .second) c none (leave o (c .waiting))
 tickWith none t c = let o = nextOpened t c in giving (firstWord t o) c o (c .waiting)
 
+-- a tick, by the pair that is open
 abbrev pub tick : Timing → Course → Advance
 tick t c = tickWith (c .opened) t c
 
--- after an accepted offer
+-- after an accepted offer: the request is behind those that wait (RULES 8.2)
 abbrev pub queued : Course → Request → Course
 queued c r = record { past = c .past; opened = c .opened; waiting = c .waiting ++ (r ∷ []) }

@@ -1,4 +1,4 @@
--- Lists of calls: what a controller comes to, and what the paper lays down for the same calls.
+-- Lists of calls (RULES 8.7): what a controller comes to, and what is laid down for the same calls.
 use Prim.Native.Nat.{ℕ, _+_, _*_, _-_, max}
 use mathlib.Core.Bool.{Bool, true, false, cond, _&&_}
 use mathlib.Core.List.{List, [], _∷_, _++_}
@@ -25,24 +25,25 @@ pub data Call : Type 0 where
   offer : Request → Call
   tick : Call
 
--- an accepted request. "c is the number of ticks accepted before that offer, q the number of requests waiting just before it."
+-- an accepted request, with c, how many ticks were accepted before its offer, and q, how many requests waited just before it
 pub record Accepted : Type 0 where
   pub request : Request
   pub ticks : ℕ
   pub ahead : ℕ
 
--- how far a list of calls has come. "The words given are those of the accepted ticks, in order, the first at clock 0"
+-- how far a list of calls has come: the words of the accepted ticks, in order, the first at clock 0; the accepted requests; the
+-- controller that the last call handed back
 pub record Run : Type 0 where
   pub words : List ℕ
   pub accepted : List Accepted
   pub controller : Controller
 
--- "Accepted means not refused"
+-- what a call adds to a list: nothing if it was refused
 abbrev pub ifAccepted : {A : Type 0} → Outcome (Unit {0}) → A → List A
 ifAccepted (value u) a = a ∷ []
 ifAccepted (refused n) a = []
 
--- "Each call gets the controller that the last one handed back."
+-- one call more, on the controller that the last one handed back
 abbrev pub called : Run → Call → Run
 called r (offer q) =
     let o = offerOf (r .controller) q in
@@ -52,6 +53,7 @@ called r tick =
     let k = tickOf (r .controller) in
     record { words = r .words ++ ifAccepted (k .outcome) (k .word); accepted = r .accepted; controller = k .after }
 
+-- a list of calls more
 abbrev pub runFrom : Run → List Call → Run
 runFrom r [] = r
 runFrom r (x ∷ xs) = runFrom (called r x) xs
@@ -65,7 +67,7 @@ pub record Prescribed : Type 0 where
   pub words : List ℕ
   pub course : laid.Course
 
--- an offer is refused "exactly for 26 or 27, a tick exactly for 24"
+-- one call more: an offer is accepted if its request is in range and fewer than sixteen wait, a tick below clock 16,777,216
 abbrev pub followed : Timing → Prescribed → Call → Prescribed
 followed t k (offer q) =
     cond (requestFits t q && ltb (length (k .course .waiting)) 16) (record { words = k .words; course = laid.queued (k .course) q }) k
@@ -73,6 +75,7 @@ followed t k tick =
     let a = laid.tick t (k .course) in
     cond (ltb (length (k .words)) 16777216) (record { words = k .words ++ (a .word ∷ []); course = a .after }) k
 
+-- a list of calls more
 abbrev pub prescribedFrom : Timing → Prescribed → List Call → Prescribed
 prescribedFrom t k [] = k
 prescribedFrom t k (x ∷ xs) = prescribedFrom t (followed t k x) xs
@@ -85,13 +88,14 @@ prescribed t calls = prescribedFrom t (record { words = []; course = laid.start 
 abbrev pub pairsOf : List ℕ → List ClosedPair
 pairsOf words = pastFrom nothing words .pairs
 
--- "Their read and write pairs are the closed ones, each read to its request." Oldest first.
+-- the request that an operation is, if it is one
 abbrev pub requestOf : Operation → List Request
 requestOf (Access r) = r ∷ []
 requestOf (Regular a3) = []
 requestOf (Extended v) = []
 requestOf Refresh = []
 
+-- the requests of the closed read and write pairs, oldest first, each as its pair is read
 abbrev pub requestsOf : Timing → List ClosedPair → List Request
 requestsOf t [] = []
 requestsOf t (p ∷ ps) = requestsOf t ps ++ requestOf (operationOf t (p .first) (p .second))
@@ -101,20 +105,23 @@ abbrev pub starts : List ClosedPair → List ℕ
 starts [] = []
 starts (p ∷ ps) = starts ps ++ cond (wasAccess p) (p .start ∷ []) []
 
+-- an operation is a request
 abbrev pub isAccess : Operation → Bool
 isAccess (Access r) = true
 isAccess (Regular a3) = false
 isAccess (Extended v) = false
 isAccess Refresh = false
 
+-- the pair that is open is a request's
 abbrev pub accessOpen : Option Operation → Bool
 accessOpen none = false
 accessOpen (some o) = isAccess o
 
--- "a pair that tick opened for the oldest waiting request and that is still open at the list's end counts as that request's"
+-- the first words of the accepted requests, oldest first: those of the closed read and write pairs; and if the pair of the oldest waiting
+-- request is open at the end, the last word given is its first
 abbrev pub firstWords : List ℕ → Option Operation → List ℕ
 firstWords words opened = starts (pairsOf words) ++ cond (accessOpen opened) ((length words - 1) ∷ []) []
 
--- "max(c, 201) + (q + 1) × S + RC + REFC"
+-- the bound on a request's first word: max(c, 201) + (q + 1) × S + RC + REFC
 abbrev pub latestStart : Timing → Accepted → ℕ
 latestStart t a = max (a .ticks) 201 + (a .ahead + 1) * t .spacing + t .rc + t .refc

@@ -1,4 +1,4 @@
--- Stepping word by word from a fresh checker, and the published verdict.
+-- Stepping word by word from a fresh checker, and the published verdict (RULES 5.4).
 use Prim.Native.Nat.{ℕ, _≤_}
 use mathlib.Core.Path.{_≡_}
 use mathlib.Core.List.{List, [], _∷_}
@@ -17,6 +17,7 @@ follow (value accepted) rest = rest
 follow (value (breach k n)) rest = value (breach k n)
 follow (refused n) rest = refused n
 
+-- the answer of stepping through the words
 abbrev pub stepping : Checker → List ℕ → Outcome Judgement
 stepping s [] = value accepted
 stepping s (w ∷ ws) = let rest = stepping (stepOf s w .after) ws in follow (stepOf s w .outcome) rest
@@ -26,8 +27,9 @@ abbrev pub afterAll : Checker → List ℕ → Checker
 afterAll s [] = s
 afterAll s (w ∷ ws) = afterAll (stepOf s w .after) ws
 
+-- the theorem that joins the checker's states to the published rules
 pub record Refinement : Type 0 where
   -- for every accepted configuration and every trace that the whole check takes, stepping gives the published verdict
   pub verdict : (c : Config) (t : Timing) (ws : List ℕ) → timingOf c ≡ value t → length ws ≤ 16777216 → stepping (fresh c) ws ≡ value (judge t ws)
-  -- "No state that calls make from a fresh one refuses 19."
+  -- whatever words a fresh checker has stepped through, on any sheet, the next step is not refused by 19 (RULES 6.19)
   pub never-19 : (c : Config) (ws : List ℕ) (w : ℕ) → stepOf (afterAll (fresh c) ws) w .outcome ≡ refused 19 → ⊥

@@ -1,4 +1,4 @@
--- What a step of the checker does, for every state there is.
+-- What a step of the checker does, for every state there is (RULES 5.4).
 use Prim.Native.Nat.{ℕ, _+_}
 use mathlib.Core.Bool.{Bool, cond, not, _&&_, _||_}
 use mathlib.Core.List.{List}
@@ -30,9 +30,11 @@ pub record Step : Type 0 where
   pub outcome : Outcome Judgement
   pub after : Checker
 
+-- what `Checker::step` returns, as these two
 abbrev pub stepped : Stepped → Step
 stepped r = record { outcome = verdictOutcome (r .verdict); after = r .checker }
 
+-- a fresh checker: clock 0, no pair open, no event and no breach
 abbrev pub fresh : Config → Checker
 fresh c = record { config = c; clock = 0; first = 0xC0000; stamps = never; breach = record { clock = 0; number = 0 } }
 
@@ -40,6 +42,7 @@ fresh c = record { config = c; clock = 0; first = 0xC0000; stamps = never; breac
 abbrev pub before : ℕ → ℕ → Bool
 before k c = eqb c 0 || ltb c k
 
+-- so is each of eight
 abbrev pub eightBefore : ℕ → List ℕ → Bool
 eightBefore k cs =
     before k (getD cs 0 0)
@@ -62,12 +65,12 @@ stampsBefore k s =
     && eightBefore k (s .banks)
     && eightBefore k (s .refs)
 
--- "19 its clock is above 16,777,216, it remembers an event … not before its clock". The first word of an open pair is an event too:
--- it stands one clock back, so at clock 0 no pair is open.
+-- no refusal 19 (RULES 6.19): the clock is at most 16,777,216, every event that is remembered is before it, and at clock 0 no pair is
+-- open. The first word of an open pair is an event too: it stands one clock back.
 abbrev pub clockFits : ℕ → ℕ → Timestamps → Bool
 clockFits clock first s = leb clock 16777216 && stampsBefore clock s && not (eqb clock 0 && opens first)
 
--- the word is judged: a breach is recorded, and the clock stays; otherwise the state goes on
+-- the word is judged (RULES 5.4): a breach is recorded, and the clock stays; otherwise the state goes on
 abbrev pub judged : Timing → Checker → ℕ → Step
 judged t s w =
     let n = wordBreach t (s .stamps) (s .clock) (s .first) w in
@@ -95,7 +98,7 @@ judged t s w =
           };
     })
 
--- a refusal leaves the state unchanged
+-- a refusal leaves the state unchanged (RULES 7.2)
 abbrev pub refusing : Checker → ℕ → Step
 refusing s n = record { outcome = refused n; after = s }
 
@@ -103,7 +106,7 @@ refusing s n = record { outcome = refused n; after = s }
 abbrev pub stepIf : Bool → ℕ → Checker → Step → Step
 stepIf holds n s rest = cond holds rest (refusing s n)
 
--- "Examiner step and walk: 23 state already in breach; 24 clock 16,777,216 reached." The sheet's refusals and 19 come first.
+-- the sheet's refusals, 19, 23 where a breach is recorded, 24 at clock 16,777,216, in this order (RULES 7.1); else the word is judged
 abbrev pub stepBy : Outcome Timing → Checker → ℕ → Step
 stepBy (refused n) s w = refusing s n
 stepBy (value t) s w =

@@ -5,6 +5,7 @@ use Rattle.command.specs.declared.operation.Operation.{Operation}
 use Rattle.reading.specs.declared.ReadAnswer.{ReadAnswer}
 use Rattle.reading.specs.declared.ReadAnswer.the-variants.{Read, Refused}
 
+-- the answer of `read_pair`
 abbrev pub readOutcome : ReadAnswer → Outcome Operation
 readOutcome (Read o) = value o
 readOutcome (Refused r) = refused (refusalNumber r)

@@ -1,3 +1,3 @@
--- What the contracts of this crate say, in the order of the paper's section "The word at each clock".
+-- What the contracts of this crate say.
 pub mod Reading
 pub mod Answers

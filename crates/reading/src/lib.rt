@@ -116,7 +116,7 @@ fn register_fits(extended: bool, timing: Timing, second: u32) -> bool
     }
 }
 
-// Breach 4: the fields of a mode pair's second word are wrong.
+// Rule 4 (RULES 4.4): the pair is a mode, and its MRS has a wrong field.
 pub fn mode_wrong(timing: Timing, first: u32, second: u32) -> bool
     ensures { λ r. ⌜ r ≡ modeWrong timing first second ⌝ }
 {
@@ -125,7 +125,7 @@ pub fn mode_wrong(timing: Timing, first: u32, second: u32) -> bool
         & !((second / BA1 % 4 == 0) & (second / A7 % 128 == 0) & register)
 }
 
-// Breach 5: a write at BL 4 has a reserved lane.
+// Rule 5 (RULES 4.5): the pair is a write, and its LAL has a reserved lane.
 pub fn lane_reserved(timing: Timing, first: u32, second: u32) -> bool
     ensures { λ r. ⌜ r ≡ laneReserved timing first second ⌝ }
 {
@@ -147,7 +147,7 @@ fn sound_pair(timing: Timing, first: u32, second: u32) -> bool
         & !reserved
 }
 
-// Reads a pair: the configuration's refusals, then 28 for a breach 1, 2, 4 or 5 in it, or no pair.
+// Reads a pair: the configuration's refusals, then 28 for words that are no sound pair (RULES 3.4).
 pub fn read_pair(config: Config, pair: Pair) -> ReadAnswer
     ensures { λ r. ⌜ readOutcome r ≡ readPair config pair ⌝ }
 {

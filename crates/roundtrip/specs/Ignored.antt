@@ -1,4 +1,4 @@
--- Which pins each word of a pair is read by, and the pair with every other pin low.
+-- Which pins each word of a pair is read by, and the pair with every other pin low (RULES 2.7).
 use Prim.Native.Nat.{ℕ, _+_}
 use mathlib.Core.Bool.{Bool, true, false, cond}
 use mathlib.Core.List.{List, [], _∷_, _++_}
@@ -13,6 +13,7 @@ pub record Pins : Type 0 where
   pub from : ℕ
   pub count : ℕ
 
+-- so many pins, the first of them n
 abbrev pub row : ℕ → ℕ → Pins
 row n width = record { from = n; count = width }
 
@@ -25,16 +26,16 @@ only (p ∷ ps) w = put (p .from) (p .count) (pins (p .from) (p .count) w) + onl
 abbrev pub always : List Pins
 always = row 18 1 ∷ row 19 1 ∷ []
 
--- FN opens the first word; bank and row count where LAL follows, and "in mode and refresh pairs those pins are ignored"
+-- of the first word FN counts, and where a LAL follows also bank and row; in a mode and a refresh they are ignored (RULES 2.3)
 abbrev pub firstPins : Bool → List Pins
 firstPins true = row 0 14 ∷ row 14 3 ∷ row 17 1 ∷ always
 firstPins false = row 17 1 ∷ always
 
--- the column's pins: "A0 to A7 by 16, A0 to A8 by 8"
+-- how many pins carry the column: eight by 16, nine by 8 (RULES 2.4)
 abbrev pub columnWidth : Config → ℕ
 columnWidth c = cond (eqb (c .organisation) 16) 8 9
 
--- a lane's VW0, and at BL 4 its VW1
+-- a lane's VW0, and at BL 4 its VW1 (RULES 2.5)
 abbrev pub lanePins : Config → ℕ → ℕ → List Pins
 lanePins c vw0 vw1 = row vw0 1 ∷ cond (eqb (c .bl) 4) (row vw1 1 ∷ []) []
 
@@ -49,6 +50,7 @@ secondPins false true c = row 0 (columnWidth c) ∷ writePins c ++ always
 secondPins true false c = row 0 14 ∷ row 14 3 ∷ always
 secondPins false false c = always
 
+-- the pair with every ignored pin low (RULES 3.5)
 abbrev pub ignoredLow : Config → Pair → Pair
 ignoredLow c p =
     record {

@@ -1,4 +1,4 @@
--- Reading and writing are each other's inverse, and no ignored pin changes what is read, over all configurations.
+-- Reading and writing are each other's inverse, and no ignored pin changes what is read, over all configurations (RULES 2.7, 3.5).
 use mathlib.Core.Path.{_≡_}
 use mathlib.Core.Bool.{false, _||_}
 use Rattle.config.specs.Outcome.{value}
@@ -10,10 +10,11 @@ use Rattle.roundtrip.specs.Ignored.{ignoredLow}
 use Rattle.command.specs.declared.operation.Operation.{Operation}
 use Rattle.command.specs.declared.operation.Pair.{Pair}
 
+-- the theorem, on any sheet
 pub record RoundTrip : Type 0 where
   -- an operation that is written reads back to itself
   pub written-reads-back : (c : Config) (o : Operation) (p : Pair) → writePair c o ≡ value p → readPair c p ≡ value o
   -- a pair that reads as an operation is written back as the same pair with every ignored pin low
   pub read-writes-back : (c : Config) (p : Pair) (o : Operation) → readPair c p ≡ value o → writePair c o ≡ value (ignoredLow c p)
-  -- "Pins not named are ignored when read": a pair with no bit above 19 is read, or refused, as the same pair with every ignored pin low
+  -- a pair with no bit above 19 is read, or refused, as the same pair with every ignored pin low
   pub ignored-when-read : (c : Config) (p : Pair) → (strayBit (p .first) || strayBit (p .second)) ≡ false → readPair c p ≡ readPair c (ignoredLow c p)

@@ -1,11 +1,11 @@
--- The past of a clock, by the word rules alone: nothing is judged here.
+-- The past of a clock, by what words and pairs are (RULES 2.2): nothing is judged here.
 use Prim.Native.Nat.{ℕ, _+_, _-_}
 use mathlib.Core.Bool.{cond}
 use mathlib.Core.List.{List, [], _∷_}
 use mathlib.Core.Option.{Option, none, some}
 use Rattle.command.specs.Pairs.{opens}
 
--- "A pair at t has words at t and t + 1."
+-- a closed pair: its first word stands at the clock `start`, its closing word one clock later (RULES 4.0)
 pub record ClosedPair : Type 0 where
   pub start : ℕ
   pub first : ℕ
@@ -17,11 +17,11 @@ pub record Past : Type 0 where
   pub opened : Option ℕ
   pub pairs : List ClosedPair
 
--- "Clocks count from 0, after power-up."
+-- the past at power-up: the next word is the one at clock 0 (RULES 4.0)
 abbrev pub nothing : Past
 nothing = record { clock = 0; opened = none; pairs = [] }
 
--- "CS high with no pair open is DESL. CS low with no pair open opens a pair … The next word closes it …"
+-- one word more: where no pair is open it opens one, or is DESL if CS is high; where one is open it closes it, whatever it is (RULES 2.2)
 abbrev pub extendBy : Option ℕ → Past → ℕ → Past
 extendBy none p w = record { clock = p .clock + 1; opened = cond (opens w) (some w) none; pairs = p .pairs }
 extendBy (some first) p w =
@@ -31,6 +31,7 @@ extendBy (some first) p w =
       pairs = record { start = p .clock - 1; first = first; second = w } ∷ p .pairs;
     }
 
+-- the same by the pair that is open in the past
 abbrev pub extend : Past → ℕ → Past
 extend p w = extendBy (p .opened) p w
 

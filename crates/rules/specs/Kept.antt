@@ -24,6 +24,7 @@ keptFrom k (w ∷ ws) =
 abbrev pub kept : List ℕ → Kept
 kept ws = keptFrom (record { clock = 0; first = 0xC0000; stamps = never }) ws
 
+-- the theorem that joins the tests to the published rules
 pub record Enough : Type 0 where
   -- at any word behind any others, the tests of what is kept find the breach that the published rules find in the whole past
   pub breach : (t : Timing) (ws : List ℕ) (w : ℕ) → wordBreach t (kept ws .stamps) (kept ws .clock) (kept ws .first) w ≡ breachAt t (pastFrom nothing ws) w

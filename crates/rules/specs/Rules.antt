@@ -1,5 +1,5 @@
--- The rules and breach numbers, over the whole history of closed pairs. Rules 1 to 3 are judged at each word k, 4 to 12 at each
--- closing word k, whose pair began at u = k − 1.
+-- The rules (RULES 4) over the whole history of closed pairs. Each word, at its clock k, is held to rules 1 to 3; a closing word, whose
+-- pair began at u = k − 1, also to rules 4 to 12. An earlier pair began at t, so its LAL, MRS or REF stands at t + 1.
 use Prim.Native.Nat.{ℕ, suc, _+_, _-_, _/_}
 use mathlib.Core.Bool.{Bool, false, cond, not, _&&_, _||_}
 use mathlib.Core.List.{List, [], _∷_, map}
@@ -12,38 +12,44 @@ use Rattle.command.specs.Pairs.{lal, isRead, isWrite, isMode, isRefresh}
 use Rattle.reading.specs.Reading.{modeWrong, laneReserved}
 use Rattle.rules.specs.History.{ClosedPair, Past}
 
--- what a closed pair is
+-- a closed pair was a read
 abbrev pub wasRead : ClosedPair → Bool
 wasRead p = isRead (p .first) (p .second)
 
+-- it was a write
 abbrev pub wasWrite : ClosedPair → Bool
 wasWrite p = isWrite (p .first) (p .second)
 
+-- it was a read or a write
 abbrev pub wasAccess : ClosedPair → Bool
 wasAccess p = wasRead p || wasWrite p
 
+-- it was a mode
 abbrev pub wasMode : ClosedPair → Bool
 wasMode p = isMode (p .first) (p .second)
 
+-- it was a refresh
 abbrev pub wasRefresh : ClosedPair → Bool
 wasRefresh p = isRefresh (p .first) (p .second)
 
--- "BA0 low is regular", "BA0 high is extended"
+-- it set the regular register: BA0 of its MRS is low (RULES 2.6)
 abbrev pub wasRegular : ClosedPair → Bool
 wasRegular p = wasMode p && not (high 14 (p .second))
 
+-- it set the extended register: BA0 of its MRS is high (RULES 2.6)
 abbrev pub wasExtended : ClosedPair → Bool
 wasExtended p = wasMode p && high 14 (p .second)
 
+-- the bank on the first word of a read or a write (RULES 2.3)
 abbrev pub bankOf : ℕ → ℕ
 bankOf first = pins 14 3 first
 
--- "an earlier one": some pair of the history has the property
+-- some pair of the history has the property: any of them, and not just the last (RULES 4.0)
 abbrev pub earlier : (ClosedPair → Bool) → List ClosedPair → Bool
 earlier f [] = false
 earlier f (p ∷ ps) = f p || earlier f ps
 
--- the clocks of the closing words (MRS and REF words, say) of the pairs with a property, newest first
+-- the clocks t + 1 of the closing words of the pairs with a property, newest first: MRS and REF words, say
 abbrev pub closings : (ClosedPair → Bool) → List ClosedPair → List ℕ
 closings f [] = []
 closings f (p ∷ ps) = cond (f p) ((p .start + 1) ∷ closings f ps) (closings f ps)
@@ -54,30 +60,30 @@ oldest [] = 0
 oldest (k ∷ []) = k
 oldest (k ∷ j ∷ ks) = oldest (j ∷ ks)
 
--- 1 "A bit above 19 is set."
+-- rule 1 (RULES 4.1): a bit above 19 is set
 abbrev pub rule1 : Timing → Past → ℕ → Bool
 rule1 t p w = strayBit w
 
--- 2 "PD is low."
+-- rule 2 (RULES 4.2): PD is low
 abbrev pub rule2 : Timing → Past → ℕ → Bool
 rule2 t p w = not (high 19 w)
 
--- 3 "A REF word stands before k, and k less the last one exceeds D."
+-- rule 3 (RULES 4.3): there is a REF word before k, and k is more than D after the last one
 abbrev pub rule3 : Timing → Past → ℕ → Bool
 rule3 t p w =
     let refs = closings wasRefresh (p .pairs) in
     leb 1 (length refs) && ltb (t .refi) (p .clock - getD refs 0 0)
 
--- 4 "MRS fields wrong."
+-- rule 4 (RULES 4.4): an MRS with a wrong field
 abbrev pub rule4 : Timing → List ClosedPair → ℕ → ℕ → ℕ → Bool
 rule4 t ps u first second = modeWrong t first second
 
--- 5 "A write at BL 4 has a reserved lane."
+-- rule 5 (RULES 4.5): a write's LAL with a reserved lane
 abbrev pub rule5 : Timing → List ClosedPair → ℕ → ℕ → ℕ → Bool
 rule5 t ps u first second = laneReserved t first second
 
--- 6 "Read or write at u before readiness: any of extended MRS, regular MRS and second REF does not stand before u, or u − e < 200,
--- e the clock of the first extended MRS word." Whatever is closed when a pair opens at u stands before u.
+-- rule 6 (RULES 4.6): a read or write, and before u there is no extended MRS, no regular MRS or no second REF, or u is less than 200
+-- after the first extended MRS word. Whatever is closed when a pair opens at u stands before u.
 abbrev pub rule6 : Timing → List ClosedPair → ℕ → ℕ → ℕ → Bool
 rule6 t ps u first second =
     lal second
@@ -86,42 +92,42 @@ rule6 t ps u first second =
     || not (leb 2 (length (closings wasRefresh ps)))
     || ltb (u - oldest (closings wasExtended ps)) 200)
 
--- 7 "Read or write at u, an earlier one of the same bank at t, u − t < RC."
+-- rule 7 (RULES 4.7): a read or write too soon after an earlier one of its bank: from t to u less than RC
 abbrev pub rule7 : Timing → List ClosedPair → ℕ → ℕ → ℕ → Bool
 rule7 t ps u first second =
     lal second && earlier (λ p. wasAccess p && eqb (bankOf (p .first)) (bankOf first) && ltb (u - p .start) (t .rc)) ps
 
--- 8 "Read or write at u, an earlier one at t of any bank: u − t < RBD; or read then write with u − (t + 1) < RWD; or write then read
--- with u − (t + 1) < WRD."
+-- rule 8 (RULES 4.8): a read or write too soon after an earlier one of any bank: from t to u less than RBD; a write after a read, from
+-- its LAL at t + 1 to u less than RWD; a read after a write, from its LAL at t + 1 to u less than WRD
 abbrev pub rule8 : Timing → List ClosedPair → ℕ → ℕ → ℕ → Bool
 rule8 t ps u first second =
     lal second && earlier (λ p. wasAccess p && ltb (u - p .start) (t .rbd)) ps
     || isWrite first second && earlier (λ p. wasRead p && ltb (u - (p .start + 1)) (t .rwd)) ps
     || isRead first second && earlier (λ p. wasWrite p && ltb (u - (p .start + 1)) (t .wrd)) ps
 
--- 9 "Any pair at u after a mode pair at t, u − t < RSC."
+-- rule 9 (RULES 4.9): any pair too soon after a mode: from t to u less than RSC
 abbrev pub rule9 : Timing → List ClosedPair → ℕ → ℕ → ℕ → Bool
 rule9 t ps u first second = earlier (λ p. wasMode p && ltb (u - p .start) (t .rsc)) ps
 
--- 10 "Any pair at u after a refresh at t, u − t < REFC."
+-- rule 10 (RULES 4.10): any pair too soon after a refresh: from t to u less than REFC
 abbrev pub rule10 : Timing → List ClosedPair → ℕ → ℕ → ℕ → Bool
 rule10 t ps u first second = earlier (λ p. wasRefresh p && ltb (u - p .start) (t .refc)) ps
 
--- 11 "Mode or refresh at u, an earlier read or write at t, u − t < RC; for mode also u − (t + 1) < CL + BL/2 after a read,
--- < WL + BL/2 after a write."
+-- rule 11 (RULES 4.11): a mode or refresh too soon after a read or write: from t to u less than RC; a mode also from the LAL at t + 1 to
+-- u, less than CL + BL / 2 after a read or WL + BL / 2 after a write
 abbrev pub rule11 : Timing → List ClosedPair → ℕ → ℕ → ℕ → Bool
 rule11 t ps u first second =
     not (lal second) && earlier (λ p. wasAccess p && ltb (u - p .start) (t .rc)) ps
     || isMode first second && earlier (λ p. wasRead p && ltb (u - (p .start + 1)) (t .cl + t .bl / 2)) ps
     || isMode first second && earlier (λ p. wasWrite p && ltb (u - (p .start + 1)) (t .wl + t .bl / 2)) ps
 
--- 12 "REF at k, at least eight earlier REF words, k less the eighth last < W."
+-- rule 12 (RULES 4.12): a REF word at k = u + 1 with eight REF words or more before it, less than W after the eighth last of them
 abbrev pub rule12 : Timing → List ClosedPair → ℕ → ℕ → ℕ → Bool
 rule12 t ps u first second =
     let refs = closings wasRefresh ps in
     isRefresh first second && (leb 8 (length refs) && ltb (u + 1 - getD refs 7 0) (t .window))
 
--- a rule that is judged at closing words alone
+-- a rule that is judged at closing words alone: by the first word of the open pair, at u = k − 1
 abbrev pub atClosing : (Timing → List ClosedPair → ℕ → ℕ → ℕ → Bool) → Timing → Past → ℕ → Bool
 atClosing rule t p w = by (p .opened)
   where
@@ -146,7 +152,7 @@ rules =
     ∷ atClosing rule12
     ∷ []
 
--- "Lowest number first": the place of the first test that holds, counted from n; 0 where none does
+-- the number of the first test that holds, counted from n on, and so the lowest (RULES 5.1); 0 where none does
 abbrev pub lowest : ℕ → List Bool → ℕ
 lowest n [] = 0
 lowest n (b ∷ bs) = cond b n (lowest (suc n) bs)

@@ -1,5 +1,6 @@
--- What is kept of a past, and the rules as tests of that. A timestamp is the clock of an event's closing word; 0 is never, since no
--- pair closes at clock 0. At a closing word k, k less a timestamp is u − t.
+-- What is kept of a past, and the rules as tests of that. A timestamp is the clock of an event's closing word, t + 1; 0 is never, since
+-- no pair closes at clock 0. At a closing word k, which is u + 1, k less a timestamp is u − t, and a spacing from t + 1 to u has 1 added
+-- to it here.
 use Prim.Native.Nat.{ℕ, _+_, _/_}
 use mathlib.Core.Bool.{Bool, cond, not, _&&_, _||_}
 use mathlib.Core.List.{List, [], _∷_}
@@ -16,17 +17,20 @@ use Rattle.rules.specs.declared.stamps.Timestamps.{Timestamps}
 abbrev pub near : ℕ → ℕ → ℕ → Bool
 near k c n = not (eqb c 0) && ltb k (c + n)
 
+-- the LAL of the last read or write of the bank that a first word names
 abbrev pub bankStamp : Timestamps → ℕ → ℕ
 bankStamp s first = getD (s .banks) (bankOf first) 0
 
--- rules 1 to 3
+-- rule 3, by D and the last REF word
 abbrev pub overdue : ℕ → ℕ → ℕ → Bool
 overdue refi last k = not (eqb last 0) && ltb (last + refi) k
 
+-- rules 1 to 3
 abbrev pub earlyBreach : ℕ → ℕ → ℕ → ℕ → ℕ
 earlyBreach refi last k w = lowest 1 (strayBit w ∷ not (high 19 w) ∷ overdue refi last k ∷ [])
 
--- rule 6, for a read or write: first extended and last regular MRS, last but one REF
+-- rule 6, for a read or write: first extended and last regular MRS, last but one REF; from the extended MRS word to u are 200 clocks, to
+-- k 201
 abbrev pub notReady : ℕ → ℕ → ℕ → ℕ → Bool
 notReady extended regular secondLast k = eqb extended 0 || eqb regular 0 || eqb secondLast 0 || ltb k (extended + 201)
 
@@ -65,7 +69,7 @@ wordBreach t s k first w =
     let early = earlyBreach (t .refi) (getD (s .refs) 0 0) k w in
     cond (eqb early 0) (cond (opens first) (closingBreach t s k first w) 0) early
 
--- what is kept once a read or write has closed at k; a mode; a refresh
+-- what is kept once a read or write has closed at k
 abbrev pub withAccess : Timestamps → ℕ → Bool → ℕ → Timestamps
 withAccess s k read bank =
     record {
@@ -78,6 +82,7 @@ withAccess s k read bank =
       refs = s .refs;
     }
 
+-- what is kept once a mode has: the first extended MRS, the last regular one
 abbrev pub withMode : Timestamps → ℕ → Bool → Timestamps
 withMode s k extended =
     record {
@@ -103,6 +108,7 @@ shifted k r =
     ∷ getD r 6 0
     ∷ []
 
+-- what is kept once a refresh has
 abbrev pub withRefresh : Timestamps → ℕ → Timestamps
 withRefresh s k =
     record {
@@ -121,10 +127,11 @@ remembered s k first second =
     cond (lal second) (withAccess s k (rda first) (bankOf first))
     (cond (rda first) (withMode s k (high 14 second)) (withRefresh s k))
 
--- after any word: what is kept, and the first word of the pair that is open then, or DESL
+-- what is kept after any word
 abbrev pub nextStamps : Timestamps → ℕ → ℕ → ℕ → Timestamps
 nextStamps s k first w = cond (opens first) (remembered s k first w) s
 
+-- the first word of the pair that is open after any word, or DESL
 abbrev pub nextFirst : ℕ → ℕ → ℕ
 nextFirst first w = cond (high 18 first && opens w) w 0xC0000
 

@@ -1,4 +1,4 @@
--- The verdict on a trace: the first breaching clock and the lowest breach number there, or accepted.
+-- The verdict on a trace (RULES 5): accepted, or the first clock with a breach and the lowest number there.
 use Prim.Native.Nat.{ℕ, zero, suc, _/_, _%_}
 use mathlib.Core.List.{List, [], _∷_}
 use lib.ListN.{length}
@@ -21,20 +21,21 @@ abbrev pub lead : ℕ → ℕ → Judgement → Judgement
 lead zero clock rest = rest
 lead (suc n) clock rest = breach clock (suc n)
 
--- the words that come after a past. "A trace that ends with a pair open breaches nothing by that."
+-- the words that come after a past. A pair that is open at the end has no closing word, so nothing of it is judged (RULES 5.2).
 abbrev pub judgeFrom : Timing → Past → List ℕ → Judgement
 judgeFrom t p [] = accepted
 judgeFrom t p (w ∷ ws) = let rest = judgeFrom t (extend p w) ws in lead (breachAt t p w) (p .clock) rest
 
--- a trace from power-up on
+-- a trace from power-up on (RULES 5.1)
 abbrev pub judge : Timing → List ℕ → Judgement
 judge t words = judgeFrom t nothing words
 
--- "Whole check: 24 more than 16,777,216 words. No verdict."
+-- the whole check: the verdict; or the sheet's refusals, then 24 for more than 16,777,216 words, whatever stands in them (RULES 5.3)
 abbrev pub checkOf : Config → List ℕ → Outcome Judgement
 checkOf c words = given (timingOf c) (λ t. require (leb (length words) 16777216) 24 (value (judge t words)))
 
--- The same of a trace "handed over as little-endian bytes (29 after the sheet's numbers and before 24)".
+-- the same of a trace in little-endian bytes: 29, if they are no multiple of four, comes behind the sheet's refusals and before 24 (RULES
+-- 7.1)
 abbrev pub checkBytesOf : Config → List ℕ → Outcome Judgement
 checkBytesOf c bytes =
     given (timingOf c)

@@ -5,6 +5,7 @@ use mathlib.Core.List.{List, [], _∷_}
 use lib.ListN.{length, getD}
 use lib.Dec.{ltb}
 
+-- the word of four bytes
 abbrev pub wordBy : ℕ → ℕ → ℕ → ℕ → ℕ
 wordBy a b c d = a + b * 256 + c * 65536 + d * 16777216
 

@@ -1,4 +1,4 @@
--- When an operation is in range, and the two words that it is written to. Pins not named are low.
+-- When an operation is in range (RULES 3.2, 6.26), and the two words that it is written to (RULES 3.3), every other pin low (RULES 2.7).
 use Prim.Native.Nat.{ℕ, _+_, _/_, _^_}
 use mathlib.Core.Bool.{Bool, true, cond, not, _&&_, _||_}
 use lib.Dec.{eqb, leb}
@@ -12,11 +12,11 @@ use Rattle.command.specs.declared.operation.Operation.{Operation}
 use Rattle.command.specs.declared.operation.Operation.the-variants.{Access, Regular, Extended, Refresh}
 use Rattle.command.specs.declared.operation.Pair.{Pair}
 
--- "A write has 1, 2 or (at BL 4) 4 in each lane"
+-- so many words in a lane of a write: 1 or 2, at BL 4 also 4 (RULES 3.2)
 abbrev pub laneFits : Timing → ℕ → Bool
 laneFits t n = eqb n 1 || eqb n 2 || eqb (t .bl) 4 && eqb n 4
 
--- "by 8 the upper is 0"; "A read has 0 in both."
+-- both lanes of a request: of a write the lower, and the upper by 16, where by 8 it has 0; of a read 0 in both (RULES 3.2)
 abbrev pub lanesFit : Timing → Request → Bool
 lanesFit t r =
     r .write
@@ -24,7 +24,7 @@ lanesFit t r =
     && (eqb (t .organisation) 16 && laneFits t (r .upper) || not (eqb (t .organisation) 16) && eqb (r .upper) 0)
     || not (r .write) && (eqb (r .lower) 0 && eqb (r .upper) 0)
 
--- bank BA0 to BA2; row A0 to A13; column A0 to A7, by 8 also A8
+-- each field of a request: bank, row, column, which by 8 has one pin more, and lanes (RULES 3.2)
 abbrev pub requestFits : Timing → Request → Bool
 requestFits t r =
     leb (r .bank) 7
@@ -32,17 +32,18 @@ requestFits t r =
     && (leb (r .column) 255 || not (eqb (t .organisation) 16) && leb (r .column) 511)
     && lanesFit t r
 
+-- each field of an operation: a request's, and the number of an extended mode, which has six pins (RULES 6.26)
 abbrev pub operationFits : Timing → Operation → Bool
 operationFits t (Access r) = requestFits t r
 operationFits t (Regular a3) = true
 operationFits t (Extended v) = leb v 63
 operationFits t Refresh = true
 
--- VW0 is low for two words alone. VW1 is high at BL 4 for two words and for one.
+-- the pins of a lane with so many words (RULES 2.5): VW0 is low for two words alone; VW1 is high at BL 4 for two words and for one
 abbrev pub laneAt : Timing → ℕ → ℕ → ℕ → ℕ
 laneAt t vw0 vw1 n = drive vw0 (not (eqb n 2)) + drive vw1 (eqb (t .bl) 4 && not (eqb n 4))
 
--- RDA or WRA with bank and row; LAL with the column and a write's lanes
+-- the words of a request: RDA or WRA with bank and row; LAL with the column and a write's lanes (RULES 2.3 to 2.5)
 abbrev pub accessPair : Timing → Request → Pair
 accessPair t r =
     record {
@@ -55,13 +56,14 @@ accessPair t r =
           + cond (r .write && eqb (t .organisation) 16) (laneAt t 12 11 (r .upper)) 0;
     }
 
--- RDA and MRS, WRA and REF; the bank and row pins of their first words are low
+-- the words of an operation: a request's; RDA and MRS; WRA and REF. Bank and row pins of RDA and WRA are low where no LAL follows (RULES
+-- 2.3, 2.6)
 abbrev pub pairOf : Timing → Operation → Pair
 pairOf t (Access r) = accessPair t r
 pairOf t (Regular a3) = record { first = 2 ^ 19 + 2 ^ 17; second = 2 ^ 19 + put 4 3 (t .cl) + drive 3 a3 + put 0 3 (t .bl / 2) }
 pairOf t (Extended v) = record { first = 2 ^ 19 + 2 ^ 17; second = 2 ^ 19 + 2 ^ 14 + put 1 6 v }
 pairOf t Refresh = record { first = 2 ^ 19; second = 2 ^ 19 }
 
--- "Offer and writing a pair: 26 a field out of range"
+-- writing a pair: the two words; or the sheet's refusals, then 26 (RULES 3.3)
 abbrev pub writePair : Config → Operation → Outcome Pair
 writePair c o = given (timingOf c) (λ t. require (operationFits t o) 26 (value (pairOf t o)))

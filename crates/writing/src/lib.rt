@@ -1,4 +1,4 @@
-// An operation is written to its pair of words. Pins not named are low.
+// An operation is written to its pair of words. Every pin that carries nothing is low (RULES 2.7).
 use command::Operation;
 use command::Pair;
 use command::Request;
