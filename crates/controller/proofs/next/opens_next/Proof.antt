@@ -1,7 +1,8 @@
 -- By whether the pair's words pass. Assumes nothing.
 use mathlib.Core.Path.{_≡_}
 use borrow.Author.Needs.{needs}
-use Rattle.controller.specs.Steps.{pairWords, nextPair, passes, oldestRequest}
+use Rattle.scheduler.specs.Pairs.{pairWords, nextPair}
+use Rattle.controller.specs.Steps.{passes, oldestRequest}
 use Rattle.controller.proofs.next.opens_next.Statement.{statement}
 use Rattle.controller.proofs.next.opens_next.Tie as tie
 

@@ -7,7 +7,7 @@ use borrow.Author.Tests.{not-true, not-false, leb-true}
 use borrow.Author.Needs.{needs}
 use Rattle.config.proofs.Bounds.{both}
 use Rattle.protocol.specs.Steps.{clockFits}
-use Rattle.controller.specs.Steps.{isOpen}
+use Rattle.scheduler.specs.Pairs.{isOpen}
 use Rattle.controller.specs.declared.Controller.{Controller}
 use Rattle.controller.proofs.state.state_fits.Statement.{statement}
 use Rattle.controller.proofs.state.state_fits.Tie as tie

@@ -8,8 +8,8 @@ use native.Mathlib.Omega.{arith}
 use borrow.Author.Tests.{eq-eqb, ne-eqb}
 use borrow.Author.Needs.{needs}
 use Rattle.rules.specs.declared.stamps.Timestamps.{Timestamps}
-use Rattle.controller.proofs.next.next_pair.Statement.{statement}
-use Rattle.controller.proofs.next.next_pair.Tie as tie
+use Rattle.scheduler.proofs.next_pair.Statement.{statement}
+use Rattle.scheduler.proofs.next_pair.Tie as tie
 
 -- the start, from each of the first two tests and from the last two
 abbrev at-1 : tie.After-struct-known → tie.Start
