@@ -15,7 +15,8 @@ use Rattle.writing.specs.Writing.{requestFits}
 use Rattle.command.specs.declared.operation.Request.{Request}
 use Rattle.protocol.specs.Steps.{clockFits}
 use Rattle.controller.specs.States.{vacant}
-use Rattle.controller.specs.Steps.{held, allFit, isOpen, ofOldest, stateFits}
+use Rattle.scheduler.specs.Pairs.{isOpen, ofOldest}
+use Rattle.controller.specs.Steps.{held, allFit, stateFits}
 use Rattle.controller.specs.declared.Controller.{Controller}
 
 -- what is left of the first n fits if the request at i fits and what is behind it

@@ -4,8 +4,8 @@ use lib.ListN.{replicate}
 use Rattle.config.specs.declared.Config.{Config}
 use Rattle.command.specs.declared.operation.Request.{Request}
 use Rattle.rules.specs.Stamps.{never}
+use Rattle.scheduler.specs.declared.OpenPair.the-variants.{Nothing}
 use Rattle.controller.specs.declared.Controller.{Controller}
-use Rattle.controller.specs.declared.OpenPair.the-variants.{Nothing}
 
 -- a place where no request waits
 abbrev pub vacant : Request

@@ -1,6 +1,6 @@
 -- What each call of a controller answers, and the state that it leaves, for every state there is.
 use Prim.Native.Nat.{ℕ, _+_, _-_}
-use mathlib.Core.Bool.{Bool, true, false, cond, not, _&&_, _||_}
+use mathlib.Core.Bool.{Bool, true, cond, not, _&&_}
 use mathlib.Core.List.{List, [], _∷_, _++_}
 use lib.ListN.{getD, set, take, drop}
 use lib.Dec.{eqb, leb, ltb}
@@ -8,17 +8,17 @@ use Rattle.config.specs.Outcome.{Outcome, value, refused}
 use Rattle.config.specs.Numbers.{refusalNumber}
 use Rattle.config.specs.Configuration.{timingOf}
 use Rattle.config.specs.declared.Timing.{Timing}
-use Rattle.writing.specs.Writing.{pairOf, requestFits}
+use Rattle.writing.specs.Writing.{requestFits}
 use Rattle.command.specs.declared.operation.Request.{Request}
 use Rattle.command.specs.declared.operation.Pair.{Pair}
-use Rattle.command.specs.declared.operation.Operation.the-variants.{Access, Regular as RegularMode, Extended as ExtendedMode, Refresh as Refreshing}
 use Rattle.rules.specs.Stamps.{wordBreach, remembered}
 use Rattle.protocol.specs.Steps.{clockFits}
 use Rattle.rules.specs.declared.stamps.Timestamps.{Timestamps}
+use Rattle.scheduler.specs.Pairs.{pairWords, isOpen, ofOldest, nextPair}
+use Rattle.scheduler.specs.declared.OpenPair.{OpenPair}
+use Rattle.scheduler.specs.declared.OpenPair.the-variants.{Nothing}
 use Rattle.controller.specs.States.{vacant}
 use Rattle.controller.specs.declared.Controller.{Controller}
-use Rattle.controller.specs.declared.OpenPair.{OpenPair}
-use Rattle.controller.specs.declared.OpenPair.the-variants.{Nothing, Extended, Regular, Refresh, Oldest}
 use Rattle.controller.specs.declared.CallAnswer.{CallAnswer}
 use Rattle.controller.specs.declared.CallAnswer.the-variants.{Accepted, Refused}
 use Rattle.controller.specs.declared.Offered.{Offered}
@@ -53,29 +53,6 @@ held s = take (s .count) (s .waiting)
 abbrev pub allFit : Timing → List Request → Bool
 allFit t [] = true
 allFit t (r ∷ rs) = requestFits t r && allFit t rs
-
--- the two words of an open pair, from what it stands for; DESL where none is open
-abbrev pub pairWords : Timing → OpenPair → Request → Pair
-pairWords t Nothing request = record { first = 0xC0000; second = 0xC0000 }
-pairWords t Extended request = pairOf t (ExtendedMode 0)
-pairWords t Regular request = pairOf t (RegularMode false)
-pairWords t Refresh request = pairOf t Refreshing
-pairWords t Oldest request = pairOf t (Access request)
-
--- a pair is open, and it is that of the oldest request
-abbrev pub isOpen : OpenPair → Bool
-isOpen Nothing = false
-isOpen Extended = true
-isOpen Regular = true
-isOpen Refresh = true
-isOpen Oldest = true
-
-abbrev pub ofOldest : OpenPair → Bool
-ofOldest Nothing = false
-ofOldest Extended = false
-ofOldest Regular = false
-ofOldest Refresh = false
-ofOldest Oldest = true
 
 -- "19 its clock is above 16,777,216, it remembers an event … not before its clock, more than sixteen wait, a waiting field is out of
 -- range, or a controller's open read or write pair is of no waiting request." The first word of an open pair is an event too: it
@@ -120,15 +97,6 @@ offerBy (value t) s r =
 -- an offer, to any state
 abbrev pub offerOf : Controller → Request → Offer
 offerOf s r = offerBy (timingOf (s .config)) s r
-
--- what comes next where no pair is open: "the next of extended MRS, regular MRS, REF, REF not yet done; else, from clock r + D − RC on, …
--- a refresh; else the oldest request"
-abbrev pub nextPair : Timing → Timestamps → ℕ → ℕ → OpenPair
-nextPair t s clock count =
-    cond (eqb (s .extended) 0) Extended
-    (cond (eqb (s .regular) 0) Regular
-    (cond (eqb (getD (s .refs) 1 0) 0 || leb (getD (s .refs) 0 0 + t .refi) (clock + t .rc)) Refresh
-    (cond (eqb count 0) Nothing Oldest)))
 
 -- "A pair opens only if its two words would breach nothing"
 abbrev pub passes : Timing → Timestamps → ℕ → Pair → Bool

@@ -12,21 +12,12 @@ use config::TimingAnswer;
 use offering::not_offered;
 use offering::offer_by;
 use rules::Timestamps;
+use scheduler::OpenPair;
 use ticking::not_ticked;
 use ticking::tick_by;
 ghost use mathlib.Core.Path.{_≡_};
 ghost use Rattle.controller.specs.States.{fresh};
 ghost use Rattle.controller.specs.Steps.{offered, ticked, offerOf, tickOf};
-
-// What the open pair stands for; its closing word is the next.
-pub enum OpenPair {
-    Nothing,
-    Extended,
-    Regular,
-    Refresh,
-    // The oldest waiting request.
-    Oldest,
-}
 
 pub struct Controller {
     pub config: Config,

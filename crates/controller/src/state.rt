@@ -1,13 +1,14 @@
 // The grounds on which a state is refused by 19.
 use crate::Controller;
-use crate::OpenPair;
 use command::Request;
 use config::Timing;
 use rules::DESL;
+use scheduler::is_open;
+use scheduler::of_oldest;
 ghost use mathlib.Core.Path.{_≡_};
 ghost use Prim.Native.Nat.{_≤_};
 ghost use lib.ListN.{take};
-ghost use Rattle.controller.specs.Steps.{allFit, isOpen, ofOldest, stateFits};
+ghost use Rattle.controller.specs.Steps.{allFit, stateFits};
 
 // Every field of the first so many waiting requests is in its range.
 fn waiting_fit(timing: Timing, waiting: [Request; 16], count: u32) -> bool
@@ -23,31 +24,6 @@ fn waiting_fit(timing: Timing, waiting: [Request; 16], count: u32) -> bool
         i += 1;
     }
     true
-}
-
-pub(crate) fn is_open(opened: OpenPair) -> bool
-    ensures { λ r. ⌜ r ≡ isOpen opened ⌝ }
-{
-    match opened {
-        OpenPair::Nothing => false,
-        OpenPair::Extended => true,
-        OpenPair::Regular => true,
-        OpenPair::Refresh => true,
-        OpenPair::Oldest => true,
-    }
-}
-
-// The open pair is that of a request.
-pub(crate) fn of_oldest(opened: OpenPair) -> bool
-    ensures { λ r. ⌜ r ≡ ofOldest opened ⌝ }
-{
-    match opened {
-        OpenPair::Nothing => false,
-        OpenPair::Extended => false,
-        OpenPair::Regular => false,
-        OpenPair::Refresh => false,
-        OpenPair::Oldest => true,
-    }
 }
 
 // The clock and the events agree, at most sixteen wait and all of them fit, and an open read or write pair has its request.

@@ -1,18 +1,18 @@
 // A tick on a timing: the word for the clock, or a refusal.
 use crate::CallAnswer;
 use crate::Controller;
-use crate::OpenPair;
 use crate::Ticked;
 use crate::next::opens_next;
-use crate::next::pair_words;
 use crate::queue::count_left;
 use crate::queue::requests_left;
-use crate::state::is_open;
-use crate::state::of_oldest;
 use crate::state::state_fits;
 use config::Refusal;
 use config::Timing;
 use protocol::LIMIT;
+use scheduler::OpenPair;
+use scheduler::is_open;
+use scheduler::of_oldest;
+use scheduler::pair_words;
 ghost use mathlib.Core.Path.{_≡_};
 ghost use mathlib.Core.Bool.{true};
 ghost use Prim.Native.Nat.{_<_};

@@ -1,19 +1,42 @@
 -- Each part is its leaf's. Assumes nothing.
-use Prim.Native.Nat.{ℕ}
-use mathlib.Core.Bool.{Bool, not, _&&_}
+use Prim.Native.Nat.{_≤_}
+use mathlib.Core.Path.{_≡_}
+use mathlib.Core.Bool.{Bool, true, false, not, _&&_}
 use lib.Dec.{eqb, leb}
 use borrow.Author.Tests.{not-true, not-false, leb-true}
-use Rattle.config.proofs.Bounds.{both}
 use borrow.Author.Needs.{needs}
+use Rattle.config.proofs.Bounds.{both}
+use Rattle.protocol.specs.Steps.{clockFits}
+use Rattle.scheduler.specs.Pairs.{isOpen}
+use Rattle.controller.specs.declared.Controller.{Controller}
 use Rattle.controller.proofs.state.state_fits.Statement.{statement}
 use Rattle.controller.proofs.state.state_fits.Tie as tie
 
 -- the tests that come before those of the requests
-abbrev agrees : Bool → ℕ → Bool → Bool
-agrees before clock is-open = before && not (eqb clock 0 && is-open)
+abbrev agrees : Controller → Bool
+agrees s = clockFits (s .clock) 0xC0000 (s .stamps) && not (eqb (s .clock) 0 && isOpen (s .opened))
 
-abbrev early : Bool → ℕ → Bool → ℕ → Bool
-early before clock is-open count = agrees before clock is-open && leb count 16
+abbrev early : Controller → Bool
+early s = agrees s && leb (s .count) 16
+
+-- the state, from where they are made
+abbrev state : tie.After-of-oldest → Controller
+state c = c .before .before .before .before .before .args .controller
+
+fails : (c : tie.Then1) → early (state (c .before)) ≡ false
+fails c =
+    let open-known = c .before .before in
+    rw (← open-known .before .clock-fits .ensures, ← open-known .is-open .ensures) (not-true _ (c .if1 .taken))
+
+holds : (c : tie.Else1) → early (state (c .before)) ≡ true
+holds c =
+    let open-known = c .before .before in
+    rw (← open-known .before .clock-fits .ensures, ← open-known .is-open .ensures) (not-false _ (c .if1 .left))
+
+few : (c : tie.Else1) → state (c .before) .count ≤ 16
+few c =
+    let s = state (c .before) in
+    leb-true (s .count) 16 (both (agrees s) (leb (s .count) 16) (holds c) .1)
 
 clock-fits-requires : tie.Need-clock-fits-requires
 clock-fits-requires c κs = search needs
@@ -25,20 +48,13 @@ of-oldest-requires : tie.Need-of-oldest-requires
 of-oldest-requires c κs = search needs
 
 returns : tie.Need-returns
-returns c =
-    let s = c .before .before .before .before .before .before .args .controller in
-    rw (← c .before .before .before .clock-fits .ensures, ← c .before .before .is-open .ensures, not-true (early (c .before .before .before .clock-fits .result) (s .clock) (c .before .before .is-open .result) (s .count)) (c .if1 .taken))
+returns c = rw (fails c)
 
 waiting-fit-requires : tie.Need-waiting-fit-requires
-waiting-fit-requires c κs =
-    let s = c .before .before .before .before .before .before .args .controller in
-    leb-true (s .count) 16 (both (agrees (c .before .before .before .clock-fits .result) (s .clock) (c .before .before .is-open .result)) (leb (s .count) 16) (not-false (early (c .before .before .before .clock-fits .result) (s .clock) (c .before .before .is-open .result) (s .count)) (c .if1 .left)) .1)
+waiting-fit-requires c κs = few c
 
 returns-2 : tie.Need-returns-2
-returns-2 c =
-    let s = c .before .before .before .before .before .before .before .args .controller in
-    rw
-    (c .waiting-fit .ensures, c .before .before .of-oldest .ensures, ← c .before .before .before .before .clock-fits .ensures, ← c .before .before .before .is-open .ensures, not-false (early (c .before .before .before .before .clock-fits .result) (s .clock) (c .before .before .before .is-open .result) (s .count)) (c .before .if1 .left))
+returns-2 c = rw (holds (c .before), ← c .waiting-fit .ensures, ← c .before .before .of-oldest .ensures)
 
 pub state-fits-spec : {M : Type 1} → statement M
 state-fits-spec =

@@ -1,9 +1,12 @@
 -- The invariant: all fit if those fit that are left. Assumes nothing.
-use Prim.Native.Nat.{_-_, _≤_}
-use mathlib.Core.Path.{_≡_, refl}
+use Prim.Native.Nat.{_+_, _-_, _≤_}
+use mathlib.Core.Path.{_≡_, refl, _∙_}
+use mathlib.Core.Bool.{_&&_}
 use native.Mathlib.Omega.{arith}
 use borrow.Author.Tests.{not-true, not-false}
-use lib.ListN.{take, drop}
+use lib.ListN.{getD, take, drop}
+use Rattle.writing.specs.Writing.{requestFits}
+use Rattle.controller.specs.States.{vacant}
 use Rattle.controller.specs.Steps.{allFit}
 use Rattle.controller.proofs.Waiting.{fits-from, fits-behind}
 use borrow.Author.Needs.{needs}
@@ -16,6 +19,12 @@ Inv-loop timing count waiting i₀ i =
 
 abbrev μ-loop : tie.MeasureT-loop
 μ-loop timing count waiting i₀ i = count - i
+
+-- what is left at a turn fits if its request does and those behind it do
+turn : (c : tie.In-loop Inv-loop μ-loop) → let a = c .before .before .args in let l = c .before .loop in allFit (a .timing) (take (a .count) (a .t2)) ≡ requestFits (a .timing) (getD (a .t2) (l .i) vacant) && allFit (a .timing) (drop (l .i + 1) (take (a .count) (a .t2)))
+turn c =
+    let a = c .before .before .args in
+    c .before .loop .inv .1 ∙ fits-from (a .timing) (a .t2) (a .count) (c .before .loop .i) (omega arith) (c .loop-test .taken)
 
 loop-holds : tie.Need-loop-holds Inv-loop μ-loop
 loop-holds c = (search needs, refl)
@@ -33,11 +42,7 @@ request-fits-requires : tie.Need-request-fits-requires Inv-loop μ-loop
 request-fits-requires c κs = search needs
 
 returns : tie.Need-returns Inv-loop μ-loop
-returns c =
-    let l = c .before .before .before .before .loop in
-    let a = c .before .before .before .before .before .args in
-    rw
-    (l .inv .1, fits-from (a .timing) (a .t2) (a .count) (l .i) (omega arith) (c .before .before .before .loop-test .taken), ← c .before .request-fits .ensures, not-true (c .before .request-fits .result) (c .if1 .taken))
+returns c = rw (turn (c .before .before .before), ← c .before .request-fits .ensures, not-true (c .before .request-fits .result) (c .if1 .taken))
 
 add-i : tie.Need-add-i Inv-loop μ-loop
 add-i c = search needs
@@ -46,13 +51,7 @@ loop-less : tie.Need-loop-less Inv-loop μ-loop
 loop-less c = search needs
 
 loop-again : tie.Need-loop-again Inv-loop μ-loop
-loop-again c =
-    let l = c .before .before .before .before .loop in
-    let a = c .before .before .before .before .before .args in (
-      search needs,
-      rw
-          (l .inv .1, fits-from (a .timing) (a .t2) (a .count) (l .i) (omega arith) (c .before .before .before .loop-test .taken), ← c .before .request-fits .ensures, not-false (c .before .request-fits .result) (c .if1 .left)),
-    )
+loop-again c = (search needs, rw (turn (c .before .before .before), ← c .before .request-fits .ensures, not-false (c .before .request-fits .result) (c .if1 .left)))
 
 returns-2 : tie.Need-returns-2 Inv-loop μ-loop
 returns-2 c =

@@ -1,8 +1,18 @@
 -- The words of the open pair, and what is left of the queue. Assumes nothing.
-use Rattle.controller.proofs.Waiting.{queue-fits}
+use Prim.Native.Nat.{_≤_}
+use mathlib.Core.Path.{_≡_}
+use mathlib.Core.Bool.{false, _&&_}
+use lib.Dec.{eqb}
 use borrow.Author.Needs.{needs}
+use Rattle.controller.proofs.Waiting.{queue-fits}
 use Rattle.controller.proofs.ticking.closing.Statement.{statement}
 use Rattle.controller.proofs.ticking.closing.Tie as tie
+
+-- at most sixteen wait, and one that leaves is one of them
+queue : (c : tie.After-of-oldest) → let s = c .before .before .before .before .before .before .args .controller in (s .count ≤ 16) × ((c .of-oldest .result && eqb (s .count) 0) ≡ false)
+queue c =
+    let start = c .before .before .before .before .before .before in
+    rw (c .of-oldest .ensures) (queue-fits (start .args .timing) (start .args .controller) (start .pre .1))
 
 array-copy-out-pair-words : tie.Need-array-copy-out-pair-words
 array-copy-out-pair-words c = search needs
@@ -20,18 +30,15 @@ remembered-requires : tie.Need-remembered-requires
 remembered-requires c κs = search needs
 
 requests-left-requires : tie.Need-requests-left-requires
-requests-left-requires c κs =
-    let a = c .before .before .before .before .before .before .before .args in
-    rw (c .before .of-oldest .ensures) (queue-fits (a .timing) (a .controller) (c .before .before .before .before .before .before .before .pre .1))
+requests-left-requires c κs = queue (c .before)
 
 count-left-requires : tie.Need-count-left-requires
-count-left-requires c κs =
-    let a = c .before .before .before .before .before .before .before .before .args in
-    rw (c .before .before .of-oldest .ensures) (queue-fits (a .timing) (a .controller) (c .before .before .before .before .before .before .before .before .pre .1) .1)
+count-left-requires c κs = queue (c .before .before) .1
 
 returns : tie.Need-returns
-returns c = rw
-    (c .count-left .ensures, c .before .requests-left .ensures, c .before .before .remembered .ensures, c .before .before .before .of-oldest .ensures, c .before .before .before .before .pair-words .ensures)
+returns c =
+    let o = c .before .before .before in
+    rw (c .count-left .ensures, c .before .requests-left .ensures, c .before .before .remembered .ensures, o .of-oldest .ensures, o .before .pair-words .ensures)
 
 pub closing-spec : {M : Type 1} → statement M
 closing-spec =

@@ -6,7 +6,8 @@ use lib.Dec.{ltb}
 use native.Mathlib.Omega.{arith}
 use borrow.Author.Tests.{not-true, not-false, lt-ltb, le-ltb}
 use borrow.Author.Needs.{needs}
-use Rattle.controller.specs.Steps.{isOpen, stateFits}
+use Rattle.scheduler.specs.Pairs.{isOpen}
+use Rattle.controller.specs.Steps.{stateFits}
 use Rattle.controller.proofs.ticking.tick_by.Statement.{statement}
 use Rattle.controller.proofs.ticking.tick_by.Tie as tie
 

@@ -1,5 +1,5 @@
 -- One case for each test. Assumes nothing.
-use Prim.Native.Nat.{_+_}
+use Prim.Native.Nat.{ℕ, _+_}
 use mathlib.Core.Path.{_≡_}
 use mathlib.Core.Bool.{Bool, true, false, _||_}
 use lib.Dec.{eqb, leb}
@@ -7,8 +7,9 @@ use lib.ListN.{getD}
 use native.Mathlib.Omega.{arith}
 use borrow.Author.Tests.{eq-eqb, ne-eqb}
 use borrow.Author.Needs.{needs}
-use Rattle.controller.proofs.next.next_pair.Statement.{statement}
-use Rattle.controller.proofs.next.next_pair.Tie as tie
+use Rattle.rules.specs.declared.stamps.Timestamps.{Timestamps}
+use Rattle.scheduler.proofs.next_pair.Statement.{statement}
+use Rattle.scheduler.proofs.next_pair.Tie as tie
 
 -- the start, from each of the first two tests and from the last two
 abbrev at-1 : tie.After-struct-known → tie.Start
@@ -21,11 +22,8 @@ abbrev at-4 : tie.Else3 → tie.Start
 at-4 c = at-2 (c .before .before)
 
 -- the contract's test for a refresh
-abbrev due : tie.Start → Bool
-due s =
-    let a = s .args in
-    eqb (getD (a .stamps .refs) 1 0) 0
-    || leb (getD (a .stamps .refs) 0 0 + a .timing .refi) (a .clock + a .timing .rc)
+abbrev due : Timestamps → ℕ → ℕ → ℕ → Bool
+due s refi clock rc = eqb (getD (s .refs) 1 0) 0 || leb (getD (s .refs) 0 0 + refi) (clock + rc)
 
 -- what each test tells
 no-extended : (c : tie.Then1) → eqb (at-1 (c .before) .args .stamps .extended) 0 ≡ true
@@ -40,11 +38,15 @@ no-regular c = eq-eqb (at-2 (c .before) .args .stamps .regular) 0 (omega arith)
 regular : (c : tie.Else2) → eqb (at-2 (c .before) .args .stamps .regular) 0 ≡ false
 regular c = ne-eqb (at-2 (c .before) .args .stamps .regular) 0 (c .if2 .left)
 
-not-due : (c : tie.Else3) → due (at-4 c) ≡ false
-not-due c = cc
+not-due : (c : tie.Else3) → let d = c .before .before .before .before .before in let a = d .before .before .before .before .args in due (a .stamps) (a .timing .refi) (a .clock) (a .timing .rc) ≡ false
+not-due c =
+    let d = c .before .before .before .before .before in
+    rw (← d .before .before .refi .ensures, ← d .before .rc .ensures, ← d .refresh-due .ensures) (c .if3 .left)
 
-is-due : (c : tie.Then3) → due (at-2 (c .before .before)) ≡ true
-is-due c = cc
+is-due : (c : tie.Then3) → let d = c .before .before .before .before .before in let a = d .before .before .before .before .args in due (a .stamps) (a .timing .refi) (a .clock) (a .timing .rc) ≡ true
+is-due c =
+    let d = c .before .before .before .before .before in
+    rw (← d .before .before .refi .ensures, ← d .before .rc .ensures, ← d .refresh-due .ensures) (c .if3 .taken)
 
 none-waits : (c : tie.Then4) → eqb (at-4 (c .before) .args .count) 0 ≡ true
 none-waits c = eq-eqb (at-4 (c .before) .args .count) 0 (omega arith)

@@ -1,7 +1,7 @@
 -- One case for each variant. Assumes nothing.
 use borrow.Author.Needs.{needs}
-use Rattle.controller.proofs.next.pair_words.Statement.{statement}
-use Rattle.controller.proofs.next.pair_words.Tie as tie
+use Rattle.scheduler.proofs.pair_words.Statement.{statement}
+use Rattle.scheduler.proofs.pair_words.Tie as tie
 
 enum-told : tie.Need-enum-told
 enum-told c = search needs

@@ -1,0 +1,2 @@
+-- What the code's contracts say of the pairs that a controller opens.
+pub mod Pairs
