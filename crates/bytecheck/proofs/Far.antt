@@ -11,9 +11,10 @@ use Rattle.config.proofs.Bounds.{both}
 use Rattle.config.specs.declared.Timing.{Timing}
 use Rattle.command.specs.Pins.{high}
 use Rattle.command.specs.Pairs.{rda, lal}
-use Rattle.rules.specs.Rules.{bankOf}
-use Rattle.rules.specs.Stamps.{near, overdue, earlyBreach, closingBreach, wordBreach, withAccess, nextStamps, nextFirst}
-use Rattle.rules.specs.declared.stamps.Timestamps.{Timestamps}
+use Rattle.command.specs.Pairs.{bankOf}
+use Rattle.stamps.specs.Stamps.{withAccess, nextStamps, nextFirst}
+use Rattle.rules.specs.Breaches.{near, overdue, earlyBreach, closingBreach, wordBreach}
+use Rattle.stamps.specs.declared.Timestamps.{Timestamps}
 use Rattle.rules.proofs.Words.{run, run-passes}
 
 pub far : (k c n : ℕ) → c + n ≤ k → near k c n ≡ false

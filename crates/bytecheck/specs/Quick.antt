@@ -5,9 +5,9 @@ use mathlib.Core.Path.{_≡_}
 use mathlib.Core.Bool.{false}
 use lib.ListN.{length, getD}
 use Rattle.config.specs.declared.Timing.{Timing}
-use Rattle.rules.specs.Stamps.{near, notReady}
+use Rattle.rules.specs.Breaches.{near, notReady}
 use Rattle.rules.specs.Verdict.{Judgement}
-use Rattle.rules.specs.declared.stamps.Timestamps.{Timestamps}
+use Rattle.stamps.specs.declared.Timestamps.{Timestamps}
 
 -- a read or write that closes at k breaches none of rules 6, 9 and 10
 abbrev pub Settled : Timing → Timestamps → ℕ → Type 0

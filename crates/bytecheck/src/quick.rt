@@ -4,15 +4,15 @@ use command::pins::FN;
 use command::pins::high;
 use config::Timing;
 use config::choose;
-use rules::DESL;
-use rules::Timestamps;
+use stamps::DESL;
+use stamps::Timestamps;
 ghost use mathlib.Core.Path.{_≡_};
 ghost use mathlib.Core.Bool.{true, false};
 ghost use Prim.Native.Nat.{ℕ, _+_, _≤_, _/_};
 ghost use lib.ListN.{length};
 ghost use Rattle.command.specs.Pairs.{lal};
 ghost use Rattle.words.specs.Words.{wordsOf};
-ghost use Rattle.rules.specs.Stamps.{overdue, bankStamp, closingBreach};
+ghost use Rattle.rules.specs.Breaches.{overdue, bankStamp, closingBreach};
 ghost use Rattle.bytecheck.specs.Quick.{SettledFrom, OnlyDesl};
 
 // Past every clock of a trace.

@@ -3,7 +3,7 @@ use mathlib.Core.Bool.{false}
 use lib.ListN.{replicate}
 use Rattle.config.specs.declared.Config.{Config}
 use Rattle.command.specs.declared.operation.Request.{Request}
-use Rattle.rules.specs.Stamps.{never}
+use Rattle.stamps.specs.Stamps.{never}
 use Rattle.scheduler.specs.declared.OpenPair.the-variants.{Nothing}
 use Rattle.controller.specs.declared.Controller.{Controller}
 

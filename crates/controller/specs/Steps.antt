@@ -11,9 +11,10 @@ use Rattle.config.specs.declared.Timing.{Timing}
 use Rattle.writing.specs.Writing.{requestFits}
 use Rattle.command.specs.declared.operation.Request.{Request}
 use Rattle.command.specs.declared.operation.Pair.{Pair}
-use Rattle.rules.specs.Stamps.{wordBreach, remembered}
+use Rattle.stamps.specs.Stamps.{remembered}
+use Rattle.rules.specs.Breaches.{wordBreach}
 use Rattle.protocol.specs.Steps.{clockFits}
-use Rattle.rules.specs.declared.stamps.Timestamps.{Timestamps}
+use Rattle.stamps.specs.declared.Timestamps.{Timestamps}
 use Rattle.scheduler.specs.Pairs.{pairWords, isOpen, ofOldest, nextPair}
 use Rattle.scheduler.specs.declared.OpenPair.{OpenPair}
 use Rattle.scheduler.specs.declared.OpenPair.the-variants.{Nothing}

@@ -2,11 +2,11 @@
 use crate::Controller;
 use command::Pair;
 use config::Timing;
-use rules::DESL;
-use rules::Timestamps;
 use scheduler::OpenPair;
 use scheduler::next_pair;
 use scheduler::pair_words;
+use stamps::DESL;
+use stamps::Timestamps;
 ghost use mathlib.Core.Path.{_≡_};
 ghost use Prim.Native.Nat.{_<_};
 ghost use Rattle.controller.specs.Steps.{passes, opensNext};

@@ -2,9 +2,9 @@
 use crate::Controller;
 use command::Request;
 use config::Timing;
-use rules::DESL;
 use scheduler::is_open;
 use scheduler::of_oldest;
+use stamps::DESL;
 ghost use mathlib.Core.Path.{_≡_};
 ghost use Prim.Native.Nat.{_≤_};
 ghost use lib.ListN.{take};

@@ -11,7 +11,7 @@ use Rattle.command.specs.Pins.{high, level}
 use Rattle.command.specs.Pairs.{opens, isRead, isWrite, isMode, isRefresh}
 use Rattle.rules.specs.History.{ClosedPair, Past, nothing, extend, extendBy, pastFrom}
 use Rattle.rules.specs.Rules.{wasRead, wasWrite, wasMode, wasRefresh}
-use Rattle.rules.specs.Stamps.{nextFirst}
+use Rattle.stamps.specs.Stamps.{nextFirst}
 use Rattle.rules.proofs.Words.{firstOf, Regular, regular-extend, past-append, first-is}
 use Rattle.counts.specs.Counts.{count, deslAt, deslsFrom, countsOf}
 use Rattle.counts.specs.Turn.{counted}

@@ -17,7 +17,7 @@ use Rattle.config.specs.declared.Timing.{Timing}
 use Rattle.config.proofs.Outcomes.{refused-value, same-number}
 use Rattle.config.proofs.Accepted.{config-19}
 use Rattle.rules.specs.Verdict.{Judgement, accepted, breach}
-use Rattle.rules.specs.Stamps.{wordBreach}
+use Rattle.rules.specs.Breaches.{wordBreach}
 use Rattle.protocol.specs.Steps.{Step, fresh, clockFits, refusing, stepBy, stepOf}
 use Rattle.protocol.specs.Refinement.{follow, stepping, afterAll}
 use Rattle.protocol.specs.declared.checker.Checker.{Checker}

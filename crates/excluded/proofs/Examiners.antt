@@ -15,7 +15,7 @@ use Rattle.config.specs.declared.Timing.{Timing}
 use Rattle.config.proofs.Outcomes.{refused-value, require-value, given-value}
 use Rattle.words.specs.Words.{wordsOf}
 use Rattle.rules.specs.Verdict.{Judgement, accepted, breach, judgeFrom, judge, checkOf, checkBytesOf}
-use Rattle.rules.specs.Stamps.{wordBreach}
+use Rattle.rules.specs.Breaches.{wordBreach}
 use Rattle.protocol.specs.Steps.{Step, verdictOutcome, fresh, clockFits, refusing, judged, stepBy, stepOf}
 use Rattle.protocol.specs.declared.checker.Checker.{Checker}
 use Rattle.protocol.specs.declared.checker.Verdict.{Verdict}

@@ -18,8 +18,9 @@ use Rattle.command.specs.declared.operation.Request.{Request}
 use Rattle.command.specs.declared.operation.Operation.the-variants.{Access}
 use Rattle.roundtrip.proofs.WrittenBack.{written-back}
 use Rattle.rules.specs.History.{ClosedPair}
-use Rattle.rules.specs.Rules.{bankOf, closings, wasRead, wasWrite, wasRegular, wasRefresh}
-use Rattle.rules.specs.Stamps.{notReady}
+use Rattle.command.specs.Pairs.{bankOf}
+use Rattle.rules.specs.Rules.{closings, wasRead, wasWrite, wasRegular, wasRefresh}
+use Rattle.rules.specs.Breaches.{notReady}
 use Rattle.rules.proofs.Newest.{Ordered, latest, latest-cons}
 use Rattle.rules.proofs.Summary.{summary, ofBank, get-bank, bank-bound}
 use Rattle.rules.proofs.Tests.{closing-bound}

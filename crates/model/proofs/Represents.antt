@@ -18,7 +18,7 @@ use Rattle.command.specs.declared.operation.Request.{Request}
 use Rattle.command.specs.declared.operation.Operation.{Operation}
 use Rattle.command.specs.declared.operation.Operation.the-variants.{Access, Regular as RegularMode, Extended as ExtendedMode, Refresh as Refreshing}
 use Rattle.rules.specs.History.{ClosedPair}
-use Rattle.rules.specs.Stamps.{remembered}
+use Rattle.stamps.specs.Stamps.{remembered}
 use Rattle.rules.proofs.Newest.{Ordered}
 use Rattle.rules.proofs.Summary.{summary, summary-step}
 use Rattle.rules.proofs.Words.{ordered-mono}

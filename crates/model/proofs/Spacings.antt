@@ -9,8 +9,8 @@ use Rattle.config.specs.declared.Timing.{Timing}
 use Rattle.roundtrip.proofs.SoundPair.{sound-tests}
 use Rattle.command.specs.Pairs.{rda, lal}
 use Rattle.reading.specs.Reading.{soundPair}
-use Rattle.rules.specs.Stamps.{near, overdue, bankStamp, notReady, wordBreach}
-use Rattle.rules.specs.declared.stamps.Timestamps.{Timestamps}
+use Rattle.rules.specs.Breaches.{near, overdue, bankStamp, notReady, wordBreach}
+use Rattle.stamps.specs.declared.Timestamps.{Timestamps}
 
 -- the spacing n behind an event at c, if there was one, has run out by k
 abbrev pub Over : ℕ → ℕ → ℕ → Type 0

@@ -16,10 +16,11 @@ use Rattle.config.proofs.Outcomes.{refused-value, same-number, refused-by}
 use Rattle.config.proofs.Accepted.{config-19}
 use Rattle.rules.specs.History.{ClosedPair, Past, extendBy}
 use Rattle.rules.specs.Verdict.{accepted, breach, judge}
-use Rattle.rules.specs.Stamps.{wordBreach, nextStamps, nextFirst}
+use Rattle.stamps.specs.Stamps.{nextStamps, nextFirst}
+use Rattle.rules.specs.Breaches.{wordBreach}
 use Rattle.protocol.specs.Steps.{Step, fresh, clockFits, stepBy, stepOf}
 use Rattle.protocol.specs.Refinement.{stepping, afterAll, Refinement}
-use Rattle.rules.specs.declared.stamps.Timestamps.{Timestamps}
+use Rattle.stamps.specs.declared.Timestamps.{Timestamps}
 use Rattle.protocol.specs.declared.checker.Checker.{Checker}
 use Rattle.rules.proofs.Summary.{summary}
 use Rattle.rules.proofs.Words.{firstOf, Regular, regular-extend, stamps-is, first-is, clock-is, run, run-is}

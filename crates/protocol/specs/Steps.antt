@@ -11,8 +11,9 @@ use Rattle.config.specs.declared.Config.{Config}
 use Rattle.config.specs.declared.Timing.{Timing}
 use Rattle.command.specs.Pairs.{opens}
 use Rattle.rules.specs.Verdict.{Judgement, accepted, breach}
-use Rattle.rules.specs.Stamps.{wordBreach, nextStamps, nextFirst, never}
-use Rattle.rules.specs.declared.stamps.Timestamps.{Timestamps}
+use Rattle.stamps.specs.Stamps.{nextStamps, nextFirst, never}
+use Rattle.rules.specs.Breaches.{wordBreach}
+use Rattle.stamps.specs.declared.Timestamps.{Timestamps}
 use Rattle.protocol.specs.declared.checker.Breach.{Breach}
 use Rattle.protocol.specs.declared.checker.Checker.{Checker}
 use Rattle.protocol.specs.declared.checker.Stepped.{Stepped}

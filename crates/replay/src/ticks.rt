@@ -14,7 +14,7 @@ use controller::CallAnswer;
 use controller::Controller;
 use controller::Offered;
 use controller::Ticked;
-use rules::DESL;
+use stamps::DESL;
 
 // The state with another controller.
 fn with_controller(state: State, controller: Controller) -> State {

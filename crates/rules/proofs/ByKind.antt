@@ -8,8 +8,8 @@ use Rattle.config.specs.declared.Timing.{Timing}
 use Rattle.command.specs.Pairs.{rda, lal}
 use Rattle.reading.specs.Reading.{modeWrong, laneReserved}
 use Rattle.rules.specs.Rules.{lowest}
-use Rattle.rules.specs.Stamps.{near, bankStamp, notReady, tooClose, busy, closingBreach}
-use Rattle.rules.specs.declared.stamps.Timestamps.{Timestamps}
+use Rattle.rules.specs.Breaches.{near, bankStamp, notReady, tooClose, busy, closingBreach}
+use Rattle.stamps.specs.declared.Timestamps.{Timestamps}
 use Rattle.rules.proofs.Sums.{no-more}
 
 module _ (t : Timing) (s : Timestamps) (k first second : ℕ) where

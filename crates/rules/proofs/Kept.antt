@@ -3,7 +3,7 @@ use Prim.Native.Nat.{ℕ}
 use mathlib.Core.Path.{_≡_, refl, sym, _∙_, ap}
 use mathlib.Core.List.{List, [], _∷_}
 use Rattle.rules.specs.History.{Past, nothing, extend, pastFrom}
-use Rattle.rules.specs.Stamps.{wordBreach}
+use Rattle.rules.specs.Breaches.{wordBreach}
 use Rattle.rules.specs.Kept.{Kept, keptFrom, Enough}
 use Rattle.rules.proofs.Summary.{summary}
 use Rattle.rules.proofs.Words.{firstOf, Regular, regular-extend, breach-is, stamps-is, first-is, clock-is}

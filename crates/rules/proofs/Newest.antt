@@ -11,7 +11,7 @@ use lib.ListN.{getD}
 use lib.Dec.{eqb, ltb}
 use Rattle.rules.specs.History.{ClosedPair}
 use Rattle.rules.specs.Rules.{earlier, closings}
-use Rattle.rules.specs.Stamps.{near}
+use Rattle.rules.specs.Breaches.{near}
 use Rattle.rules.proofs.Closings.{ltb-same, nonzero}
 
 -- each pair is closed before the next one opens, and the newest before b

@@ -10,9 +10,10 @@ use lib.Dec.{eqb, lit<}
 use Rattle.command.specs.Pins.{high}
 use Rattle.command.specs.Pairs.{rda, lal}
 use Rattle.rules.specs.History.{ClosedPair}
-use Rattle.rules.specs.Rules.{wasRead, wasWrite, wasAccess, wasMode, wasRefresh, wasRegular, wasExtended, bankOf, closings, oldest}
-use Rattle.rules.specs.Stamps.{withAccess, withMode, withRefresh, remembered}
-use Rattle.rules.specs.declared.stamps.Timestamps.{Timestamps}
+use Rattle.command.specs.Pairs.{bankOf}
+use Rattle.rules.specs.Rules.{wasRead, wasWrite, wasAccess, wasMode, wasRefresh, wasRegular, wasExtended, closings, oldest}
+use Rattle.stamps.specs.Stamps.{withAccess, withMode, withRefresh, remembered}
+use Rattle.stamps.specs.declared.Timestamps.{Timestamps}
 use Rattle.rules.proofs.Closings.{closings-past0, oldest-cons}
 use Rattle.rules.proofs.Newest.{latest, latest-cons}
 

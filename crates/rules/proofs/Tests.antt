@@ -9,8 +9,9 @@ use lib.Dec.{eqb, ltb}
 use Rattle.config.specs.declared.Timing.{Timing}
 use Rattle.command.specs.Pairs.{rda, lal, isRefresh}
 use Rattle.rules.specs.History.{ClosedPair, Past}
-use Rattle.rules.specs.Rules.{wasRead, wasWrite, wasAccess, wasMode, wasRefresh, wasRegular, wasExtended, bankOf, earlier, closings, oldest, rule3, rule6, rule7, rule8, rule9, rule10, rule11, rule12}
-use Rattle.rules.specs.Stamps.{near, overdue, bankStamp, notReady, tooClose, busy}
+use Rattle.command.specs.Pairs.{bankOf}
+use Rattle.rules.specs.Rules.{wasRead, wasWrite, wasAccess, wasMode, wasRefresh, wasRegular, wasExtended, earlier, closings, oldest, rule3, rule6, rule7, rule8, rule9, rule10, rule11, rule12}
+use Rattle.rules.specs.Breaches.{near, overdue, bankStamp, notReady, tooClose, busy}
 use Rattle.rules.proofs.Closings.{ltb-same, closings-past0, counted, oldest-counted}
 use Rattle.rules.proofs.Newest.{Ordered, latest, since-start, since-closing}
 use Rattle.rules.proofs.Summary.{summary, ofBank, get-bank, bank-bound}

@@ -17,8 +17,9 @@ use Rattle.command.specs.Pairs.{opens}
 use Rattle.rules.specs.History.{ClosedPair, Past, extend, extendBy, pastFrom}
 use Rattle.rules.specs.Rules.{lowest, breachAt}
 use Rattle.rules.specs.Verdict.{Judgement, accepted, breach, lead, judgeFrom, judge}
-use Rattle.rules.specs.Stamps.{overdue, closingBreach, wordBreach, remembered, nextStamps, nextFirst, never}
-use Rattle.rules.specs.declared.stamps.Timestamps.{Timestamps}
+use Rattle.stamps.specs.Stamps.{remembered, nextStamps, nextFirst, never}
+use Rattle.rules.specs.Breaches.{overdue, closingBreach, wordBreach}
+use Rattle.stamps.specs.declared.Timestamps.{Timestamps}
 use Rattle.rules.proofs.Newest.{Ordered}
 use Rattle.rules.proofs.Summary.{summary, summary-step}
 use Rattle.rules.proofs.Tests.{overdue-is, ready-is, bank-is, close-is, mode-is, refresh-is, busy-is, window-is}

@@ -5,8 +5,9 @@ use mathlib.Core.List.{List, [], _∷_}
 use Rattle.config.specs.declared.Timing.{Timing}
 use Rattle.rules.specs.History.{nothing, pastFrom}
 use Rattle.rules.specs.Rules.{breachAt}
-use Rattle.rules.specs.Stamps.{wordBreach, nextStamps, nextFirst, never}
-use Rattle.rules.specs.declared.stamps.Timestamps.{Timestamps}
+use Rattle.stamps.specs.Stamps.{nextStamps, nextFirst, never}
+use Rattle.rules.specs.Breaches.{wordBreach}
+use Rattle.stamps.specs.declared.Timestamps.{Timestamps}
 
 -- the clock of the next word, the first word of the pair that is open there, or DESL, and the timestamps
 pub record Kept : Type 0 where

@@ -7,8 +7,8 @@ use mathlib.Core.Option.{Option, none, some}
 use lib.ListN.{length, getD}
 use lib.Dec.{eqb, leb, ltb}
 use Rattle.config.specs.declared.Timing.{Timing}
-use Rattle.command.specs.Pins.{pins, high, strayBit}
-use Rattle.command.specs.Pairs.{lal, isRead, isWrite, isMode, isRefresh}
+use Rattle.command.specs.Pins.{high, strayBit}
+use Rattle.command.specs.Pairs.{bankOf, lal, isRead, isWrite, isMode, isRefresh}
 use Rattle.reading.specs.Reading.{modeWrong, laneReserved}
 use Rattle.rules.specs.History.{ClosedPair, Past}
 
@@ -39,10 +39,6 @@ wasRegular p = wasMode p && not (high 14 (p .second))
 -- it set the extended register: BA0 of its MRS is high (RULES 2.6)
 abbrev pub wasExtended : ClosedPair → Bool
 wasExtended p = wasMode p && high 14 (p .second)
-
--- the bank on the first word of a read or a write (RULES 2.3)
-abbrev pub bankOf : ℕ → ℕ
-bankOf first = pins 14 3 first
 
 -- some pair of the history has the property: any of them, and not just the last (RULES 4.0)
 abbrev pub earlier : (ClosedPair → Bool) → List ClosedPair → Bool

@@ -1,5 +1,4 @@
 // The rules as tests of what is kept of the past.
-use crate::stamps::Timestamps;
 use command::pins::BA0;
 use command::pins::CS;
 use command::pins::FN;
@@ -7,13 +6,14 @@ use command::pins::PD;
 use command::pins::high;
 use config::Timing;
 use config::choose;
+use stamps::Timestamps;
 ghost use mathlib.Core.Path.{_≡_};
 ghost use mathlib.Core.Bool.{true, false};
 ghost use Rattle.command.specs.Pairs.{lal};
 ghost use mathlib.Core.List.{[], _∷_};
 ghost use Prim.Native.Nat.{_+_};
 ghost use Rattle.rules.specs.Rules.{lowest};
-ghost use Rattle.rules.specs.Stamps.{near, earlyBreach, notReady, tooClose, busy, closingBreach, wordBreach};
+ghost use Rattle.rules.specs.Breaches.{near, earlyBreach, notReady, tooClose, busy, closingBreach, wordBreach};
 
 // An event at this timestamp, if there was one, is less than so many clocks, and so many more, ago.
 fn near(clock: u32, stamp: u32, limit: u32, more: u32) -> bool

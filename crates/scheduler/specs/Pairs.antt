@@ -8,7 +8,7 @@ use Rattle.writing.specs.Writing.{pairOf}
 use Rattle.command.specs.declared.operation.Request.{Request}
 use Rattle.command.specs.declared.operation.Pair.{Pair}
 use Rattle.command.specs.declared.operation.Operation.the-variants.{Access, Regular as RegularMode, Extended as ExtendedMode, Refresh as Refreshing}
-use Rattle.rules.specs.declared.stamps.Timestamps.{Timestamps}
+use Rattle.stamps.specs.declared.Timestamps.{Timestamps}
 use Rattle.scheduler.specs.declared.OpenPair.{OpenPair}
 use Rattle.scheduler.specs.declared.OpenPair.the-variants.{Nothing, Extended, Regular, Refresh, Oldest}
 

@@ -10,7 +10,7 @@ use Rattle.config.specs.Outcome.{value}
 use Rattle.words.specs.Words.{wordsOf}
 use Rattle.words.proofs.Listed.{words-length, word-listed}
 use Rattle.rules.specs.Verdict.{judge}
-use Rattle.rules.specs.Stamps.{earlyBreach}
+use Rattle.rules.specs.Breaches.{earlyBreach}
 use Rattle.bytecheck.specs.Quick.{SettledFrom}
 use Rattle.bytecheck.proofs.Far.{early-by, idle-passes, clear-passes, desl-passes}
 use Rattle.rules.proofs.Words.{run, run-is, run-passes, run-breaches, run-ends}

@@ -7,7 +7,7 @@ use lib.ListN.{getD}
 use native.Mathlib.Omega.{arith}
 use borrow.Author.Tests.{eq-eqb, ne-eqb}
 use borrow.Author.Needs.{needs}
-use Rattle.rules.specs.declared.stamps.Timestamps.{Timestamps}
+use Rattle.stamps.specs.declared.Timestamps.{Timestamps}
 use Rattle.scheduler.proofs.next_pair.Statement.{statement}
 use Rattle.scheduler.proofs.next_pair.Tie as tie
 

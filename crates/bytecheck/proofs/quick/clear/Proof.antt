@@ -6,7 +6,7 @@ use native.Mathlib.Omega.{arith}
 use borrow.Author.Tests.{not-true, not-false}
 use Rattle.config.specs.declared.Timing.{Timing}
 use Rattle.command.specs.Pairs.{rda, lal}
-use Rattle.rules.specs.Stamps.{bankStamp, tooClose}
+use Rattle.rules.specs.Breaches.{bankStamp, tooClose}
 use Rattle.rules.proofs.ByKind.{at-lal}
 use Rattle.bytecheck.proofs.Far.{far}
 use borrow.Author.Needs.{needs}

@@ -2,7 +2,7 @@
 use Prim.Native.Nat.{_+_}
 use mathlib.Core.Path.{_≡_}
 use borrow.Author.Needs.{needs}
-use Rattle.rules.specs.Stamps.{wordBreach}
+use Rattle.rules.specs.Breaches.{wordBreach}
 use Rattle.controller.proofs.next.passes.Statement.{statement}
 use Rattle.controller.proofs.next.passes.Tie as tie
 

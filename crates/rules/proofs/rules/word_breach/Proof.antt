@@ -5,7 +5,7 @@ use mathlib.Core.Bool.{true, false, not}
 use lib.ListN.{getD}
 use lib.Dec.{eqb}
 use Rattle.command.specs.Pairs.{opens}
-use Rattle.rules.specs.Stamps.{earlyBreach}
+use Rattle.rules.specs.Breaches.{earlyBreach}
 use borrow.Author.Needs.{needs}
 use Rattle.rules.proofs.rules.word_breach.Statement.{statement}
 use Rattle.rules.proofs.rules.word_breach.Tie as tie

@@ -6,7 +6,7 @@ use command::pins::high;
 use config::choose;
 ghost use mathlib.Core.Path.{_≡_};
 ghost use Prim.Native.Nat.{_<_};
-ghost use Rattle.rules.specs.Stamps.{withAccess, withMode, withRefresh, remembered, nextStamps, nextFirst, never};
+ghost use Rattle.stamps.specs.Stamps.{withAccess, withMode, withRefresh, remembered, nextStamps, nextFirst, never};
 
 pub struct Timestamps {
     // The first extended MRS word.

@@ -1,7 +1,7 @@
 -- Each pin is its leaf's. Assumes nothing.
 use borrow.Author.Needs.{needs}
-use Rattle.rules.proofs.stamps.next_first.Statement.{statement}
-use Rattle.rules.proofs.stamps.next_first.Tie as tie
+use Rattle.stamps.proofs.next_first.Statement.{statement}
+use Rattle.stamps.proofs.next_first.Tie as tie
 
 high-requires : tie.Need-high-requires
 high-requires c κs = search needs

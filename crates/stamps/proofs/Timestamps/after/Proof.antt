@@ -3,8 +3,8 @@ use mathlib.Core.Path.{_≡_, sym, _∙_, ap}
 use mathlib.Core.Bool.{true, false, not}
 use borrow.Author.Needs.{needs}
 use Rattle.command.specs.Pairs.{opens}
-use Rattle.rules.proofs.stamps.Timestamps.after.Statement.{statement}
-use Rattle.rules.proofs.stamps.Timestamps.after.Tie as tie
+use Rattle.stamps.proofs.Timestamps.after.Statement.{statement}
+use Rattle.stamps.proofs.Timestamps.after.Tie as tie
 
 -- what the test tells
 opened : (c : tie.Then1) → opens (c .before .before .args .first) ≡ true

@@ -1,7 +1,7 @@
 -- The first extended and the last regular by the test. Assumes nothing.
 use borrow.Author.Needs.{needs}
-use Rattle.rules.proofs.stamps.Timestamps.with_mode.Statement.{statement}
-use Rattle.rules.proofs.stamps.Timestamps.with_mode.Tie as tie
+use Rattle.stamps.proofs.Timestamps.with_mode.Statement.{statement}
+use Rattle.stamps.proofs.Timestamps.with_mode.Tie as tie
 
 choose-requires : tie.Need-choose-requires
 choose-requires c κs = search needs

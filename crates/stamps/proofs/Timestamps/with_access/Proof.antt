@@ -1,7 +1,7 @@
 -- The last access of each kind by the test. Assumes nothing.
 use borrow.Author.Needs.{needs}
-use Rattle.rules.proofs.stamps.Timestamps.with_access.Statement.{statement}
-use Rattle.rules.proofs.stamps.Timestamps.with_access.Tie as tie
+use Rattle.stamps.proofs.Timestamps.with_access.Statement.{statement}
+use Rattle.stamps.proofs.Timestamps.with_access.Tie as tie
 
 mul-banks : tie.Need-mul-banks
 mul-banks c = search needs

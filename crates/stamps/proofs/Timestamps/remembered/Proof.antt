@@ -3,8 +3,8 @@ use mathlib.Core.Path.{_≡_, sym, _∙_}
 use mathlib.Core.Bool.{true, false}
 use Rattle.command.specs.Pairs.{rda, lal}
 use borrow.Author.Needs.{needs}
-use Rattle.rules.proofs.stamps.Timestamps.remembered.Statement.{statement}
-use Rattle.rules.proofs.stamps.Timestamps.remembered.Tie as tie
+use Rattle.stamps.proofs.Timestamps.remembered.Statement.{statement}
+use Rattle.stamps.proofs.Timestamps.remembered.Tie as tie
 
 -- what the two tests tell: the second word is LAL or not; if not, the first is RDA or WRA
 is-lal : (c : tie.Then1) → lal (c .before .before .before .args .second) ≡ true

@@ -1,0 +1,82 @@
+-- What is kept of a past: timestamps. A timestamp is the clock of an event's closing word, t + 1; 0 is never, since no pair closes at
+-- clock 0.
+use Prim.Native.Nat.{ℕ}
+use mathlib.Core.Bool.{Bool, cond, _&&_}
+use mathlib.Core.List.{List, [], _∷_}
+use lib.ListN.{getD, set}
+use lib.Dec.{eqb}
+use Rattle.command.specs.Pins.{high}
+use Rattle.command.specs.Pairs.{opens, rda, lal, bankOf}
+use Rattle.stamps.specs.declared.Timestamps.{Timestamps}
+
+-- what is kept once a read or write has closed at k
+abbrev pub withAccess : Timestamps → ℕ → Bool → ℕ → Timestamps
+withAccess s k read bank =
+    record {
+      extended = s .extended;
+      regular = s .regular;
+      mode = s .mode;
+      read = cond read k (s .read);
+      write = cond read (s .write) k;
+      banks = set (s .banks) bank k;
+      refs = s .refs;
+    }
+
+-- what is kept once a mode has: the first extended MRS, the last regular one
+abbrev pub withMode : Timestamps → ℕ → Bool → Timestamps
+withMode s k extended =
+    record {
+      extended = cond (extended && eqb (s .extended) 0) k (s .extended);
+      regular = cond extended (s .regular) k;
+      mode = k;
+      read = s .read;
+      write = s .write;
+      banks = s .banks;
+      refs = s .refs;
+    }
+
+-- the newest in front, the eighth drops out
+abbrev pub shifted : ℕ → List ℕ → List ℕ
+shifted k r =
+    k
+    ∷ getD r 0 0
+    ∷ getD r 1 0
+    ∷ getD r 2 0
+    ∷ getD r 3 0
+    ∷ getD r 4 0
+    ∷ getD r 5 0
+    ∷ getD r 6 0
+    ∷ []
+
+-- what is kept once a refresh has
+abbrev pub withRefresh : Timestamps → ℕ → Timestamps
+withRefresh s k =
+    record {
+      extended = s .extended;
+      regular = s .regular;
+      mode = s .mode;
+      read = s .read;
+      write = s .write;
+      banks = s .banks;
+      refs = shifted k (s .refs);
+    }
+
+-- what is kept once any pair has closed at k
+abbrev pub remembered : Timestamps → ℕ → ℕ → ℕ → Timestamps
+remembered s k first second =
+    cond (lal second) (withAccess s k (rda first) (bankOf first))
+    (cond (rda first) (withMode s k (high 14 second)) (withRefresh s k))
+
+-- what is kept after any word
+abbrev pub nextStamps : Timestamps → ℕ → ℕ → ℕ → Timestamps
+nextStamps s k first w = cond (opens first) (remembered s k first w) s
+
+-- the first word of the pair that is open after any word, or DESL
+abbrev pub nextFirst : ℕ → ℕ → ℕ
+nextFirst first w = cond (high 18 first && opens w) w 0xC0000
+
+-- nothing is remembered
+abbrev pub never : Timestamps
+never =
+    let none : List ℕ = 0 ∷ 0 ∷ 0 ∷ 0 ∷ 0 ∷ 0 ∷ 0 ∷ 0 ∷ [] in
+    record { extended = 0; regular = 0; mode = 0; read = 0; write = 0; banks = none; refs = none }
