@@ -21,7 +21,7 @@ use Rattle.controller.specs.Steps.{held, joined, notOffered, offerOf, tickOf}
 use Rattle.model.specs.Runs.{Call, offer, tick, Accepted, Run, called, runFrom, run, Prescribed, prescribed, pairsOf, requestsOf, firstWords, latestStart}
 use Rattle.model.specs.Demand3.{Holds, Demand3}
 use Rattle.controller.specs.declared.Controller.{Controller}
-use Rattle.controller.specs.declared.OpenPair.the-variants.{Nothing}
+use Rattle.scheduler.specs.declared.OpenPair.the-variants.{Nothing}
 use Rattle.model.proofs.Figures.{Figures, figures}
 use Rattle.model.proofs.Fulfilled.{Met, met-at}
 use Rattle.model.proofs.Going.{firstsOf, start-goes, none-passed}

@@ -25,10 +25,11 @@ use Rattle.rules.proofs.Summary.{summary}
 use Rattle.rules.proofs.Words.{ordered-mono, breach-is}
 use Rattle.model.specs.Laid.{Course, orElse, refreshDue, oldestOf, candidate, breachless, opening, firstWord}
 use Rattle.controller.specs.States.{vacant}
-use Rattle.controller.specs.Steps.{pairWords, isOpen, ofOldest, nextPair, passes}
+use Rattle.scheduler.specs.Pairs.{pairWords, isOpen, ofOldest, nextPair}
+use Rattle.controller.specs.Steps.{passes}
 use Rattle.controller.specs.declared.Controller.{Controller}
-use Rattle.controller.specs.declared.OpenPair.{OpenPair}
-use Rattle.controller.specs.declared.OpenPair.the-variants.{Nothing, Extended, Regular, Refresh, Oldest}
+use Rattle.scheduler.specs.declared.OpenPair.{OpenPair}
+use Rattle.scheduler.specs.declared.OpenPair.the-variants.{Nothing, Extended, Regular, Refresh, Oldest}
 use Rattle.model.proofs.Figures.{Figures}
 use Rattle.model.proofs.Candidates.{Due, fits-open}
 use Rattle.model.proofs.InTime.{lastRef}

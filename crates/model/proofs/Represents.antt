@@ -26,11 +26,12 @@ use Rattle.protocol.proofs.Before.{fits}
 use Rattle.model.specs.Laid.{Course}
 use Rattle.model.specs.Laid as laid
 use Rattle.controller.specs.States.{vacant}
-use Rattle.controller.specs.Steps.{Offer, held, allFit, pairWords, ofOldest, stateFits, joined, notOffered, offerOf, nextPair, passes, movedUp, notTicked, tickOf}
+use Rattle.scheduler.specs.Pairs.{pairWords, ofOldest, nextPair}
+use Rattle.controller.specs.Steps.{Offer, held, allFit, stateFits, joined, notOffered, offerOf, passes, movedUp, notTicked, tickOf}
 use Rattle.model.specs.Runs.{requestOf, isAccess, accessOpen}
 use Rattle.controller.specs.declared.Controller.{Controller}
-use Rattle.controller.specs.declared.OpenPair.{OpenPair}
-use Rattle.controller.specs.declared.OpenPair.the-variants.{Nothing, Extended, Regular, Refresh, Oldest}
+use Rattle.scheduler.specs.declared.OpenPair.{OpenPair}
+use Rattle.scheduler.specs.declared.OpenPair.the-variants.{Nothing, Extended, Regular, Refresh, Oldest}
 use Rattle.model.proofs.Figures.{Figures}
 use Rattle.model.proofs.Candidates.{AllFit, Due, candidate-due}
 use Rattle.model.proofs.Turn.{idle}
