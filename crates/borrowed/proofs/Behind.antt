@@ -1,7 +1,7 @@
 -- What the walks of `offer` and `tick` share: a struct of plain data behind a `&mut` is copied out whole, a covered function is called on the
 -- copy, and the struct that it hands back is stored.
 --     opened    the `&mut` is opened: the machine value that lies there is written out, and its relation is in hand
---     closed    it is closed at another value, whose machine value lies there
+--     closed    it is closed at another value, whose machine value lies there; what the value owns is given up
 --     read      a call has returned a struct of plain data, whose relation is in hand: its machine value is written out
 --     told      the same from what a call hands back: what its value owns, the tokens, the fact that the callee's `ensures` states of it, and
 --               its relation
@@ -35,9 +35,8 @@ use denote.Laws.{Is, shows, Are, Ises, Spells, valss, Tellss}
 use denote.Memory.{mem, cellAt, lone}
 use denote.Ref.{MutRef}
 use denote.Signature.{Signature, typesAt}
-use denote.Steps.{only, opens, closes, owned, peeks, heard}
-use denote.Struct.Declared.{Declared, row, fields}
-use denote.Struct.Struct.{Plains}
+use denote.Steps.{only, opens, closes, peeks, heard}
+use denote.Struct.Declared.{Declared, row}
 use denote.Struct.Steps.{spelt}
 use denote.Struct.Laws as LL
 use denote.Triple.Entry.{Args, onEntry}
@@ -58,12 +57,12 @@ module _ {M : Type 1} {𝓤 : URA M} {H : Heap 𝓤} {A : Atoms 𝓤} {K : Type 
         spelt t (row T) (Is (row T)) (shows 𝓤 H A (row T)) (LL.vals T L) (LL.tells T L) fullShare h vs b o $
         move t (1 ∷ []) $ peeks t (row T) (Is (row T)) (shows 𝓤 H A (row T)) h (LL.vals T L h) k)
 
-    pub closed : K → Soaks G → (T : Declared) (L : LL.Laws T) → Plains (fields T) → (h : T .D) → Is (row T) h (LL.vals T L h) → {u v : Gv}
+    pub closed : K → Soaks G → (T : Declared) (L : LL.Laws T) (h : T .D) {u v : Gv}
         → Step K W (‵ (MutRef (named 0) κ (row T) .own (record { ptr = (b, o); name = γ; now = h }) (vptr b o ∷ [])) ∷ ‵ (flft κ q) ∷ Γ) G
-        (‵ (cellAt fullShare (row T .mir) (LL.vals T L h) b o) ∷ ‵ (fobor κ q (Body (mem (row T)) b o γ)) ∷ ‵ (fobs γ u) ∷ ‵ (fauth γ v) ∷ Γ) G
-    closed t z T L pl h is = step (λ s.
-        owned t (row T) (Is (row T)) (LL.makes T pl 𝓤 H A) h (LL.vals T L h) is $ move t (1 ∷ 0 ∷ []) $
-        closes t z (row T) h (LL.vals T L h) b o $ feqI t (List Val) (vptr b o ∷ []) (vptr b o ∷ []) refl $ fjoin3 t $ s)
+        (‵ (row T .own h (LL.vals T L h)) ∷ ‵ (cellAt fullShare (row T .mir) (LL.vals T L h) b o) ∷ ‵ (fobor κ q (Body (mem (row T)) b o γ))
+        ∷ ‵ (fobs γ u) ∷ ‵ (fauth γ v) ∷ Γ) G
+    closed t z T L h = step (λ s.
+        move t (1 ∷ 0 ∷ []) $ closes t z (row T) h (LL.vals T L h) b o $ feqI t (List Val) (vptr b o ∷ []) (vptr b o ∷ []) refl $ fjoin3 t $ s)
 
   module _ {C : Calls 𝓤 H} {Λ : Loops 𝓤 H} {E : Env 𝓤 H} {d : Place} {rest : Code} {p : Post 𝓤 H} where
     pub read : K → {Γ : List (Item 𝓤)} (v : Val) (T : Declared) (L : LL.Laws T) (r : T .D) → Is (row T) r (v ∷ [])

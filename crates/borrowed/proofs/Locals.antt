@@ -1,7 +1,7 @@
 -- The locals of a walked function, in the context of its walk: one after the other from _0 on, each as its cell and the right to free it.
 --     Blocks, env       where the locals lie, and the environment that they make
---     Slot, locals      what stands at a local's place: room, a value, or what is kept of it while it is lent; and all of them, as entries of a context
---     cell n i          the position of _i's slot in a context where n entries stand before the locals
+--     Content, locals      what stands at a local's place: room, a value, or what is kept of it while it is lent; and all of them, as entries of a context
+--     cell n i          the position of _i's content in a context where n entries stand before the locals
 --     begins            the function is entered: its parameters hold what was passed, and the others are room
 --     aside, freed      the first n entries go behind all others; the first local, which holds something, is freed
 --     held, part        a local is read, or a field of it.          sets, lands-in          a local that is room is assigned, or gets a call's result
@@ -42,11 +42,11 @@ abbrev pub Passed : List Local → List Val → Type 0
 Passed [] vs = ⊥
 Passed (l ∷ ls) vs = Fit ls vs
 
-pub data Slot : Type 0 where
-  room : Slot
-  holds : Val → Slot
+pub data Content : Type 0 where
+  room : Content
+  holds : Val → Content
 
-abbrev pub passed : List Val → List Slot
+abbrev pub passed : List Val → List Content
 passed [] = []
 passed (v ∷ vs) = holds v ∷ passed vs
 
@@ -56,15 +56,15 @@ module _ {M : Type 1} (𝓤 : URA M) (H : Heap 𝓤) where
   env (local τ h ∷ ls) bs = (τ, bs .0) ∷ env ls (bs .1)
 
 module _ {M : Type 1} {𝓤 : URA M} where
-  abbrev slot : Ty → ℕ → Slot → Item 𝓤
-  slot τ b room = ‵ (froom τ b zero)
-  slot τ b (holds v) = ‵ (fat fullShare τ b zero v)
+  abbrev content : Ty → ℕ → Content → Item 𝓤
+  content τ b room = ‵ (froom τ b zero)
+  content τ b (holds v) = ‵ (fat fullShare τ b zero v)
 
   -- a local past the list is room
-  abbrev pub locals : (ls : List Local) → Blocks ls → List Slot → List (Item 𝓤)
+  abbrev pub locals : (ls : List Local) → Blocks ls → List Content → List (Item 𝓤)
   locals [] bs ss = []
   locals (local τ h ∷ ls) bs [] = ‵ (froom τ (bs .0) zero) ∷ ‵ (fdies τ (bs .0)) ∷ locals ls (bs .1) []
-  locals (local τ h ∷ ls) bs (s ∷ ss) = slot τ (bs .0) s ∷ ‵ (fdies τ (bs .0)) ∷ locals ls (bs .1) ss
+  locals (local τ h ∷ ls) bs (s ∷ ss) = content τ (bs .0) s ∷ ‵ (fdies τ (bs .0)) ∷ locals ls (bs .1) ss
 
 module _ {M : Type 1} {𝓤 : URA M} {H : Heap 𝓤} {A : Atoms 𝓤} {K : Type 0} {W : Given 𝓤 H A} where
   swapped : {G : Goal 𝓤 H} (Δ Δ′ Γ : List (Item 𝓤)) → Step K W (Δ′ ++ (Δ ++ Γ)) G (Δ ++ (Δ′ ++ Γ)) G

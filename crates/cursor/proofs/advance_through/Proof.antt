@@ -47,7 +47,7 @@ use Rattle.protocol.proofs.checker.Checker.Laws as K′
 use Rattle.cursor.specs.Walk.{MovePromised, AdvancePromised, NewPromised}
 use Rattle.cursor.specs.declared.TraceCursor.{TraceCursor}
 use Rattle.cursor.specs.declared.Progress.{Progress}
-use Rattle.borrowed.proofs.Locals.{Blocks, env, Slot, room, holds, locals, cell, begins, aside, freed, held, held-field, sets, lands-in}
+use Rattle.borrowed.proofs.Locals.{Blocks, env, Content, room, holds, locals, cell, begins, aside, freed, held, held-field, sets, lands-in}
 use Rattle.borrowed.proofs.Behind.{told, reached}
 use Rattle.cursor.proofs.Cursors.{D, L, Cursor, Words, Both, kept, both, changed, wordsVal, configVal, checkerVal, cursorVal, movedVal, answered, with-checker}
 use Rattle.cursor.proofs.Cursors.{checker-is, answer-is, moved-made, words-typed, checker-typed, progress-typed, moved-typed, cursor-typed}
@@ -136,7 +136,7 @@ module _ {M : Type 1} (𝓤 : URA M) (H : Heap 𝓤) (A : Atoms 𝓤) (W : Given
       (checker-was : Is K.the-row k (checkerVal k ∷ [])) where
     module _ (bs : Blocks body.locals) where
       -- from the statement t on: Δ stands before the locals, which hold ss
-      abbrev From : Body → List (Item 𝓤) → List Slot → Type 1
+      abbrev From : Body → List (Item 𝓤) → List Content → Type 1
       From t Δ ss = Sq W (Δ ++ (locals body.locals bs ss ++ [])) (runs C Λ (env 𝓤 H body.locals bs) t (atRet (env 𝓤 H body.locals bs) Post))
 
       -- d is what `new` made, and the cursor that is lent lies at l

@@ -134,7 +134,8 @@ module _ {M : Type 1} (𝓤 : URA M) (H : Heap 𝓤) (A : Atoms 𝓤) (W : Given
         (store-raw ! 0 refl (typed W T.the-type T′.the-laws (r .controller) (after-is r is))) $
         sets ! (cell 4 0) refl (of-opd ! (held-field ! (cell 4 3) refl (sub ! 0 refl (whole !))))
         (EL.lawful G.the-type G′.the-laws 𝓤 H A W tt .typed (r .answer) _ (answer-is r is) .0) $
-        closed ! tt T.the-type T′.the-laws T′.the-plain (r .controller) (after-is r is) $
+        owned ! T.the-row (Is T.the-row) (LL.makes T.the-type T′.the-plain 𝓤 H A) (r .controller) _ (after-is r is) $
+        closed ! tt T.the-type T′.the-laws (r .controller) $
         -- [what the reference owns; the token]
         returns ! (look ! (cell 2 0) refl) $ aside ! $ aside ! $ freed ! $ freed ! $ freed ! $ freed ! $ freed ! $ free0 ! $
         keep ! (2 ∷ 3 ∷ []) $ by ! (exits r e is)))))

@@ -123,7 +123,8 @@ module _ {M : Type 1} (𝓤 : URA M) (H : Heap 𝓤) (A : Atoms 𝓤) (W : Given
         (store-raw ! 0 refl (typed W T.the-type T′.the-laws (r .controller) (after-is r is))) $
         sets ! (cell 4 0) refl (agg ! (and-then ! (held-field ! (cell 4 2) refl (sub ! 0 refl (whole !)))
         (and-then ! (held-field ! (cell 4 2) refl (sub ! 1 refl (whole !))) (no-more !)))) (typed W G.the-type G′.the-laws (given r) (given-is r is)) $
-        closed ! tt T.the-type T′.the-laws T′.the-plain (r .controller) (after-is r is) $
+        owned ! T.the-row (Is T.the-row) (LL.makes T.the-type T′.the-plain 𝓤 H A) (r .controller) _ (after-is r is) $
+        closed ! tt T.the-type T′.the-laws (r .controller) $
         -- [what the reference owns; the token]
         returns ! (look ! (cell 2 0) refl) $ aside ! $ aside ! $ freed ! $ freed ! $ freed ! $ freed ! $ free0 ! $ keep ! (2 ∷ 3 ∷ []) $ by ! (exits r e is)))))
 
