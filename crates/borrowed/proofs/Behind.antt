@@ -1,9 +1,10 @@
 -- What the walks of `offer` and `tick` share: a struct of plain data behind a `&mut` is copied out whole, a covered function is called on the
 -- copy, and the struct that it hands back is stored.
 --     opened    the `&mut` is opened: the machine value that lies there is written out, and its relation is in hand
---     closed    it is closed at another value, whose machine value lies there
+--     closed    it is closed at another value, whose machine value lies there; what the value owns is given up
 --     read      a call has returned a struct of plain data, whose relation is in hand: its machine value is written out
---     told      the same from what a call hands back: its value, the fact that the callee's `ensures` states of it, and its relation
+--     told      the same from what a call hands back: what its value owns, the tokens, the fact that the callee's `ensures` states of it, and
+--               its relation
 --     typed     the machine value has the struct's MIR type
 --     reached   a walk, which uses no `requires`, is taken to the function's theorem
 -- Assumes nothing.
@@ -25,7 +26,7 @@ use ghost.Atoms.{Atoms, sem}
 use contract.Lifetimes.{Lfts, Shares, AllOutlive}
 use contract.Monad.{fact}
 use contract.Running.{GhostRules, Running, givenOf, tables, tablesOf}
-use types.Kit.{Given, Item, ‵, raw, _⊛_, some, later, Goal, lands, Soaks, Post, Seq, Step, step, _$_, move, drop, use1, split, pick, regoal, fsplit3}
+use types.Kit.{Given, Item, ‵, raw, _⊛_, some, later, mean, Goal, lands, Soaks, Post, Seq, Step, step, _$_, move, drop, use1, split, pick, rewrite, regoal, fsplit3}
 use types.Kit.{fjoin3, feqI, await}
 use types.SemTy.{Body}
 use sound.WpLaws.{FmC, fmOf, WpFn-mono}
@@ -34,19 +35,18 @@ use denote.Laws.{Is, shows, Are, Ises, Spells, valss, Tellss}
 use denote.Memory.{mem, cellAt, lone}
 use denote.Ref.{MutRef}
 use denote.Signature.{Signature, typesAt}
-use denote.Steps.{only, opens, closes, owned, peeks, heard}
-use denote.Struct.Declared.{Declared, row, fields}
-use denote.Struct.Struct.{Plains}
+use denote.Steps.{only, opens, closes, peeks, heard}
+use denote.Struct.Declared.{Declared, row}
 use denote.Struct.Steps.{spelt}
 use denote.Struct.Laws as LL
 use denote.Triple.Entry.{Args, onEntry}
 use denote.Triple.Spec.{Meets, tripleOf}
 use denote.Triple.Table.{entered}
-use denote.Triple.Clauses.{Ended, Clauses, closing}
+use denote.Triple.Clauses.{Ended, Lasts, lasts, Clauses, closing}
 use denote.Triple.Walked.{Stays, AllGo, walkOf, walked, walk-meets}
 
-module _ {M : Type 1} {𝓤 : URA M} {H : Heap 𝓤} {A : Atoms 𝓤} {K : Type 0} {W : Given 𝓤 H A} {Γ : List (Item 𝓤)} where
-  module _ {G : Goal 𝓤 H} {κ : Lft} {q : Share} {γ : GName} {b o : ℕ} where
+module _ {M : Type 1} {𝓤 : URA M} {H : Heap 𝓤} {A : Atoms 𝓤} {K : Type 0} {W : Given 𝓤 H A} where
+  module _ {Γ : List (Item 𝓤)} {G : Goal 𝓤 H} {κ : Lft} {q : Share} {γ : GName} {b o : ℕ} where
     pub opened : K → Soaks G → (T : Declared) (L : LL.Laws T) (h : T .D)
         → (Is (row T) h (LL.vals T L h)
         → Seq K W (‵ (row T .own h (LL.vals T L h)) ∷ ‵ (cellAt fullShare (row T .mir) (LL.vals T L h) b o) ∷ ‵ (fobor κ q (Body (mem (row T)) b o γ))
@@ -57,28 +57,29 @@ module _ {M : Type 1} {𝓤 : URA M} {H : Heap 𝓤} {A : Atoms 𝓤} {K : Type 
         spelt t (row T) (Is (row T)) (shows 𝓤 H A (row T)) (LL.vals T L) (LL.tells T L) fullShare h vs b o $
         move t (1 ∷ []) $ peeks t (row T) (Is (row T)) (shows 𝓤 H A (row T)) h (LL.vals T L h) k)
 
-    pub closed : K → Soaks G → (T : Declared) (L : LL.Laws T) → Plains (fields T) → (h : T .D) → Is (row T) h (LL.vals T L h) → {u v : Gv}
+    pub closed : K → Soaks G → (T : Declared) (L : LL.Laws T) (h : T .D) {u v : Gv}
         → Step K W (‵ (MutRef (named 0) κ (row T) .own (record { ptr = (b, o); name = γ; now = h }) (vptr b o ∷ [])) ∷ ‵ (flft κ q) ∷ Γ) G
-        (‵ (cellAt fullShare (row T .mir) (LL.vals T L h) b o) ∷ ‵ (fobor κ q (Body (mem (row T)) b o γ)) ∷ ‵ (fobs γ u) ∷ ‵ (fauth γ v) ∷ Γ) G
-    closed t z T L pl h is = step (λ s.
-        owned t (row T) (Is (row T)) (LL.makes T pl 𝓤 H A) h (LL.vals T L h) is $ move t (1 ∷ 0 ∷ []) $
-        closes t z (row T) h (LL.vals T L h) b o $ feqI t (List Val) (vptr b o ∷ []) (vptr b o ∷ []) refl $ fjoin3 t $ s)
+        (‵ (row T .own h (LL.vals T L h)) ∷ ‵ (cellAt fullShare (row T .mir) (LL.vals T L h) b o) ∷ ‵ (fobor κ q (Body (mem (row T)) b o γ))
+        ∷ ‵ (fobs γ u) ∷ ‵ (fauth γ v) ∷ Γ) G
+    closed t z T L h = step (λ s.
+        move t (1 ∷ 0 ∷ []) $ closes t z (row T) h (LL.vals T L h) b o $ feqI t (List Val) (vptr b o ∷ []) (vptr b o ∷ []) refl $ fjoin3 t $ s)
 
   module _ {C : Calls 𝓤 H} {Λ : Loops 𝓤 H} {E : Env 𝓤 H} {d : Place} {rest : Code} {p : Post 𝓤 H} where
-    pub read : K → (v : Val) (T : Declared) (L : LL.Laws T) (r : T .D) → Is (row T) r (v ∷ [])
+    pub read : K → {Γ : List (Item 𝓤)} (v : Val) (T : Declared) (L : LL.Laws T) (r : T .D) → Is (row T) r (v ∷ [])
         → (Is (row T) r (LL.vals T L r) → Seq K W Γ (lands C Λ E d (LL.val T L r) rest p)) → Seq K W Γ (lands C Λ E d v rest p)
     read t v T L r is k =
         regoal t (λ (u : Val). lands C Λ E d u rest p) (ap only (LL.tells T L r (v ∷ []) is)) refl $ k (subst (Is (row T) r) (LL.tells T L r (v ∷ []) is) is)
 
-    pub told : K → (v : Val) (T : Declared) (L : LL.Laws T) (X : Type 0) (P : X → SProp 𝓤) (φ : T .D → Type 0)
-        → ((r : T .D) → φ r → Is (row T) r (LL.vals T L r) → Seq K W Γ (lands C Λ E d (LL.val T L r) rest p))
-        → Seq K W
-        (raw (H .⇛ (ex 𝓤 (λ (r : T .D). sep 𝓤 (sep 𝓤 (emp 𝓤) (sem 𝓤 H A (row T .own r (v ∷ [])))) (ex 𝓤 (λ (x : X). sep 𝓤 (P x) (fact 𝓤 (φ r))))))) ∷ Γ)
-        (lands C Λ E d v rest p)
-    told t v T L X P φ k =
-        use1 W (later (some (λ (r : T .D). (‵ ftrue ⊛ ‵ (row T .own r (v ∷ []))) ⊛ some (λ (x : X). raw (P x) ⊛ raw (fact 𝓤 (φ r)))))) (id⊢ 𝓤 _) $
-        await t tt $ pick t (λ r. split t $ move t (1 ∷ []) $ pick t (λ x. split t $ drop t $ heard t (φ r) (λ e.
-        split t $ drop t $ peeks t (row T) (Is (row T)) (shows 𝓤 H A (row T)) r (v ∷ []) (λ is. drop t $ read t v T L r is (k r e)))))
+    pub told : K → {Γ : List (Item 𝓤)} (v : Val) (T : Declared) (L : LL.Laws T) (Tokens : Item 𝓤) (F : Ended) (κs : Lfts (F .signature .lifetimes)) (a : Args (F .signature) κs)
+        (φ : T .D → Type 0)
+        → ((r : T .D) → φ r → Is (row T) r (LL.vals T L r) → Seq K W (‵ (row T .own r (LL.vals T L r)) ∷ Tokens ∷ Γ) (lands C Λ E d (LL.val T L r) rest p))
+        → Seq K W (raw (H .⇛ (ex 𝓤 (λ (r : T .D). sep 𝓤 (sep 𝓤 (mean 𝓤 H A Tokens) (sem 𝓤 H A (row T .own r (v ∷ []))))
+        (ex 𝓤 (λ (ws : Lasts F κs a). sep 𝓤 (sem 𝓤 H A (lasts F κs a ws)) (fact 𝓤 (φ r))))))) ∷ Γ) (lands C Λ E d v rest p)
+    told t v T L Tokens F κs a φ k =
+        use1 W (later (some (λ (r : T .D). (Tokens ⊛ ‵ (row T .own r (v ∷ []))) ⊛ some (λ (ws : Lasts F κs a). ‵ (lasts F κs a ws) ⊛ raw (fact 𝓤 (φ r)))))) (id⊢ 𝓤 _) $
+        await t tt $ pick t (λ r. split t $ move t (1 ∷ []) $ pick t (λ ws. split t $ drop t $ heard t (φ r) (λ e.
+        split t $ move t (1 ∷ []) $ peeks t (row T) (Is (row T)) (shows 𝓤 H A (row T)) r (v ∷ []) (λ is.
+        rewrite t 0 (λ (vs : List Val). ‵ (row T .own r vs)) (LL.tells T L r (v ∷ []) is) refl $ read t v T L r is (k r e)))))
 
 pub typed : {M : Type 1} {𝓤 : URA M} {H : Heap 𝓤} {A : Atoms 𝓤} (W : Given 𝓤 H A) (T : Declared) (L : LL.Laws T) (x : T .D)
     → Is (row T) x (LL.vals T L x) → Holds (hasTy (lone (row T .mir)) (LL.val T L x)) × WT (LL.val T L x)

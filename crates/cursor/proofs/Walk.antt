@@ -34,33 +34,33 @@ move-case P s ws word end = go (ltb (s .clock) (length ws)) refl
     go false e = end (ltb-false _ _ e)
 
 -- what a step leaves alone: the configuration, and the clock but for one word that passes
-record Kept (s : Checker) (r : Step) : Type 0 where
+record StepKeeps (s : Checker) (r : Step) : Type 0 where
   config : r .after .config ≡ s .config
   clock : r .after .clock ≤ s .clock + 1
   passes : r .outcome ≡ value accepted → r .after .clock ≡ s .clock + 1
 
-kept-refusing : (s : Checker) (n : ℕ) → Kept s (refusing s n)
-kept-refusing s n = record { config = refl; clock = omega arith; passes = λ e. absurd (refused-value e) }
+keeps-refusing : (s : Checker) (n : ℕ) → StepKeeps s (refusing s n)
+keeps-refusing s n = record { config = refl; clock = omega arith; passes = λ e. absurd (refused-value e) }
 
-kept-by : (o : Outcome Timing) (s : Checker) (w : ℕ) → Kept s (stepBy o s w)
-kept-by (refused n) s w = kept-refusing s n
-kept-by (value t) s w =
+keeps-by : (o : Outcome Timing) (s : Checker) (w : ℕ) → StepKeeps s (stepBy o s w)
+keeps-by (refused n) s w = keeps-refusing s n
+keeps-by (value t) s w =
     by (clockFits (s .clock) (s .first) (s .stamps))
     (by (eqb (s .breach .number) 0)
     (by (ltb (s .clock) 16777216)
     (by (eqb (wordBreach t (s .stamps) (s .clock) (s .first) w) 0)
     (record { config = refl; clock = omega arith; passes = λ e. refl })
     (record { config = refl; clock = omega arith; passes = λ e. cc }))
-    (kept-refusing s 24))
-    (kept-refusing s 23))
-    (kept-refusing s 19)
+    (keeps-refusing s 24))
+    (keeps-refusing s 23))
+    (keeps-refusing s 19)
   where
-    by : (b : Bool) {x y : Step} → Kept s x → Kept s y → Kept s (cond b x y)
+    by : (b : Bool) {x y : Step} → StepKeeps s x → StepKeeps s y → StepKeeps s (cond b x y)
     by true h k = h
     by false h k = k
 
-kept-step : (s : Checker) (w : ℕ) → Kept s (stepOf s w)
-kept-step s w = kept-by (timingOf (s .config)) s w
+keeps-step : (s : Checker) (w : ℕ) → StepKeeps s (stepOf s w)
+keeps-step s w = keeps-by (timingOf (s .config)) s w
 
 -- what every advance keeps, a walk keeps
 advanced-keeps : (P : Checker → Type 0) (ws : List ℕ) → ((s : Checker) → P s → P (moveOf s ws .after))
@@ -72,7 +72,7 @@ advanced-keeps P ws one (suc n) s h = advanced-keeps P ws one n (moveOf s ws .af
 within : (ws : List ℕ) (s : Checker) → s .clock ≤ length ws → moveOf s ws .after .clock ≤ length ws
 within ws s h =
     move-case (λ r. r .after .clock ≤ length ws) s ws
-    (λ l. let k = kept-step s (getD ws (s .clock) 0) .clock in omega arith)
+    (λ l. let k = keeps-step s (getD ws (s .clock) 0) .clock in omega arith)
     (λ _. h)
 
 -- an examined word is refused as the step refuses it, and never says end
@@ -116,7 +116,7 @@ module _ (c : Config) where
       record {
         words = m .words ++ (w ∷ []);
         is = ap (λ x. stepOf x w .after) (m .is) ∙ sym (after-one-more (fresh c) (m .words) w);
-        config = kept-step s w .config ∙ m .config;
+        config = keeps-step s w .config ∙ m .config;
       }
 
   made-move : (ws : List ℕ) (s : Checker) → Made s → Made (moveOf s ws .after)
@@ -157,7 +157,7 @@ module _ (c : Config) where
         move-case (λ r. unless (r .outcome) (walking n (r .after) ws) ≡ stopped (stepping s (drop (s .clock) ws))) s ws
         (λ k. rw (drop-cons ws (s .clock) 0 k)
         (word-turns (stepOf s w .outcome) (walking n s′ ws) (stepping s′ (drop (suc (s .clock)) ws))
-        (λ q. let p : s′ .clock ≡ suc (s .clock) = kept-step s w .passes q ∙ add-one (s .clock) in
+        (λ q. let p : s′ .clock ≡ suc (s .clock) = keeps-step s w .passes q ∙ add-one (s .clock) in
         rw (← p) (walking-is n s′ (made-step s w m) (omega arith) (omega arith)))))
         (λ k. rw (ends t s e m, drop-of-length-le ws k))
       where

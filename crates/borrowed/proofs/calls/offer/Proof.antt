@@ -15,10 +15,9 @@ use prog.Wp.{Heap, Calls, Loops, WpFn}
 use ghost.Atoms.{Atoms, sem}
 use contract.Monad.{Fun}
 use contract.Running.{givenOf}
-use types.Kit.{Given, ‵, raw, _⊛_, ⋆, _$_, _∵_, !, qed, by, move, keep, use1, split, join, fsplit, fjoin, suffices, frame, done}
-use types.Run.{look, look-raw, init, store-raw, forget, stop, hop, fld, from, load, of-opd, and-then, no-more}
-use types.Run.{assigns, land, returns, enter, alloc1, alloc0, params1, pass1, pass0, free1, free0}
-use types.Part.{whole, sub, look-in}
+use types.Kit.{Given, ‵, raw, _⊛_, ⋆, _$_, _∵_, !, qed, by, move, keep, drop, use1, split, join, fsplit, fjoin, suffices, frame, done}
+use types.Run.{look, look-raw, store-raw, stop, hop, from, load, of-opd, and-then, no-more, assigns, returns, free0}
+use types.Part.{whole, sub}
 use sound.WpLaws.{FmC}
 use denote.RattleType.{owns}
 use denote.Laws.{Is}
@@ -33,7 +32,6 @@ use denote.Triple.Entry.{onEntry}
 use denote.Triple.Spec.{tripleOf}
 use denote.Triple.Table.{cited}
 use denote.Triple.Walked.{says, Stays, stay-ref, stay-none, walkOf, goes-ref, goes-none, ends-at}
-use denote.Triple.Clauses.{Lasts, lasts}
 use denote.Exit.{yes}
 use Rattle.command.specs.declared.operation.Request.{Request}
 use Rattle.command.proofs.operation.Request as Q
@@ -51,6 +49,7 @@ use Rattle.controller.proofs.Controller.offer as callee
 use Rattle.controller.proofs.Controller.offer.Symbol as callee-def
 use Rattle.controller.proofs.Controller.offer.Symbol.{name as #callee}
 use Rattle.controller.proofs.Controller.offer.Met as callee-thm
+use Rattle.borrowed.proofs.Locals.{cell, begins, aside, freed, held, held-field, sets, lands-in}
 use Rattle.borrowed.proofs.Behind.{opened, closed, told, typed, reached}
 use Rattle.borrowed.proofs.calls.offer.Key.{name as #offer}
 use Rattle.borrowed.proofs.calls.offer as offer
@@ -122,30 +121,24 @@ module _ {M : Type 1} (𝓤 : URA M) (H : Heap 𝓤) (A : Atoms 𝓤) (W : Given
         qed W ((‵ (flft κ q) ⊛ ‵ ftrue) ∷ ‵ (owns (MutRef (named 0) κ T.the-row ∷ Q.the-row ∷ []) (ref h, (request, tt)) at) ∷ []) ∵
         split ! $ move ! (2 ∷ []) $ fsplit ! $ move ! (0 ∷ 2 ∷ []) $
         -- [what the reference owns; the token; what the request owns; true]
-        enter ! C Λ code.function (vptr b o ∷ asked ∷ []) _ $
-        alloc1 ! (λ l₀. alloc1 ! (λ l₁. alloc1 ! (λ l₂. alloc1 ! (λ l₃. alloc1 ! (λ l₄. alloc0 ! $ params1 ! $ pass1 ! (init ! 6 refl (tt, tt)) $
-        pass1 ! (init ! 4 refl (typed W Q.the-type Q′.the-laws request request-is)) $ pass0 ! $
-        move ! (10 ∷ 11 ∷ []) $ opened ! tt T.the-type T′.the-laws h (λ is₀.
-        -- [what the controller owns; its cell; the open borrow; obs; auth; room for _4; …; room for _3; …; _2; …; _1; …; room for _0; …]
-        assigns ! (of-opd ! (load ! (from ! (hop ! (look ! 11 refl) (stop !))) (look-raw ! 1 refl))) (from ! (stop !))
-        (init ! 5 refl (typed W T.the-type T′.the-laws h is₀)) $
+        begins ! C Λ code.function (vptr b o ∷ asked ∷ []) _ ((tt, tt), (typed W Q.the-type Q′.the-laws request request-is, tt)) (λ bs.
+        move ! (cell 0 5 ∷ cell 1 5 ∷ []) $ opened ! tt T.the-type T′.the-laws h (λ is₀.
+        -- [what the controller owns; its cell; the open borrow; obs; auth]
+        sets ! (cell 5 4) refl (of-opd ! (load ! (from ! (hop ! (look ! (cell 5 1) refl) (stop !))) (look-raw ! 1 refl))) (typed W T.the-type T′.the-laws h is₀) $
         use1 W (raw (Callee 𝓤 H A mem run .pre to)) goes $
-        calls-at ! fm (Callee 𝓤 H A mem run) known to
-        (and-then ! (load ! (from ! (stop !)) (look ! 5 refl)) (and-then ! (load ! (from ! (stop !)) (look ! 9 refl)) (no-more !))) (λ v.
-        told ! v S.the-type S′.the-laws (Lasts callee.ended tt (h, (request, tt)))
-        (λ ws. sem 𝓤 H A (lasts callee.ended tt (h, (request, tt)) ws)) (λ r. offered r ≡ offerOf h request) (λ r e is.
-        -- [the controller's cell; the open borrow; obs; auth; _4; …; room for _3; …; _2; …; _1; …; room for _0; …]
-        land ! (from ! (stop !)) (init ! 6 refl (typed W S.the-type S′.the-laws r is)) $
-        assigns ! (of-opd ! (load ! (from ! (fld ! refl (stop !))) (look-in ! 6 (sub ! 1 refl (whole !))))) (from ! (hop ! (look ! 10 refl) (stop !)))
+        calls-at ! fm (Callee 𝓤 H A mem run) known to (and-then ! (held ! (cell 5 4) refl) (and-then ! (held ! (cell 5 2) refl) (no-more !))) (λ v.
+        told ! v S.the-type S′.the-laws (‵ ftrue) callee.ended tt (h, (request, tt)) (λ r. offered r ≡ offerOf h request) (λ r e is. drop ! $ drop ! $
+        -- [the controller's cell; the open borrow; obs; auth]
+        lands-in ! (cell 4 3) refl (typed W S.the-type S′.the-laws r is) $
+        assigns ! (of-opd ! (held-field ! (cell 4 3) refl (sub ! 1 refl (whole !)))) (from ! (hop ! (look ! (cell 4 1) refl) (stop !)))
         (store-raw ! 0 refl (typed W T.the-type T′.the-laws (r .controller) (after-is r is))) $
-        assigns ! (of-opd ! (load ! (from ! (fld ! refl (stop !))) (look-in ! 6 (sub ! 0 refl (whole !)))))
-        (from ! (stop !)) (init ! 12 refl (EL.lawful G.the-type G′.the-laws 𝓤 H A W tt .typed (r .answer) _ (answer-is r is) .0)) $
-        closed ! tt T.the-type T′.the-laws T′.the-plain (r .controller) (after-is r is) $
-        -- [what the reference owns; the token; _4; …; _3; …; _2; …; _1; …; _0; …]
-        returns ! (look ! 10 refl) $ forget ! 2 refl $ forget ! 4 refl $ forget ! 6 refl $ forget ! 8 refl $ forget ! 10 refl $
-        move ! (10 ∷ 11 ∷ []) $ free1 ! $ move ! (8 ∷ 9 ∷ []) $ free1 ! $ move ! (6 ∷ 7 ∷ []) $ free1 ! $
-        move ! (4 ∷ 5 ∷ []) $ free1 ! $ move ! (2 ∷ 3 ∷ []) $ free1 ! $ free0 ! $
-        keep ! (0 ∷ 1 ∷ []) $ by ! (exits r e is)))))))))
+        sets ! (cell 4 0) refl (of-opd ! (held-field ! (cell 4 3) refl (sub ! 0 refl (whole !))))
+        (EL.lawful G.the-type G′.the-laws 𝓤 H A W tt .typed (r .answer) _ (answer-is r is) .0) $
+        owned ! T.the-row (Is T.the-row) (LL.makes T.the-type T′.the-plain 𝓤 H A) (r .controller) _ (after-is r is) $
+        closed ! tt T.the-type T′.the-laws (r .controller) $
+        -- [what the reference owns; the token]
+        returns ! (look ! (cell 2 0) refl) $ aside ! $ aside ! $ freed ! $ freed ! $ freed ! $ freed ! $ freed ! $ free0 ! $
+        keep ! (2 ∷ 3 ∷ []) $ by ! (exits r e is)))))
 
 pub offer-spec : {M : Type 1} → stated.statement M
 unfolding code.routine

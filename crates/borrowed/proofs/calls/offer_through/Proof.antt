@@ -15,8 +15,7 @@ use ghost.Atoms.{Atoms}
 use contract.Monad.{Fun}
 use contract.Running.{givenOf}
 use types.Kit.{Given, ‵, raw, _⊛_, ⋆, _$_, _∵_, !, qed, by, move, keep, drop, use2, split, join, fjoin, suffices, frame, done}
-use types.Run.{look, init, forget, stop, from, load, addr, of-opd, and-then, no-more}
-use types.Run.{assigns, land, returns, enter, alloc1, alloc0, params1, pass1, pass0, free1, free0}
+use types.Run.{look, stop, from, addr, of-opd, and-then, no-more, returns, free0}
 use types.Part.{agg}
 use sound.WpLaws.{FmC}
 use denote.RattleType.{owns}
@@ -44,6 +43,7 @@ use Rattle.controller.proofs.Offered as S
 use Rattle.controller.proofs.Offered.Laws as S′
 use Rattle.controller.proofs.CallAnswer as G
 use Rattle.controller.proofs.CallAnswer.Laws as G′
+use Rattle.borrowed.proofs.Locals.{cell, begins, freed, held, sets, lands-in}
 use Rattle.borrowed.proofs.Behind.{typed, reached}
 use Rattle.borrowed.proofs.Lending.{Ref, unbounded, lent, returned, regained}
 use Rattle.borrowed.proofs.calls.offer as callee
@@ -113,31 +113,25 @@ module _ {M : Type 1} (𝓤 : URA M) (H : Heap 𝓤) (A : Atoms 𝓤) (W : Given
     walk : ent 𝓤 (onEntry 𝓤 H A through.signature tt tt (h, (request, tt)) at) (WpFn 𝓤 H C Λ code.function (mach ∷ asked ∷ []) Post)
     walk =
         qed W (‵ ftrue ∷ ‵ (owns (T.the-row ∷ Q.the-row ∷ []) (h, (request, tt)) at) ∷ []) ∵ keep ! [] $
-        enter ! C Λ code.function (mach ∷ asked ∷ []) _ $
-        alloc1 ! (λ l₀. alloc1 ! (λ l₁. alloc1 ! (λ l₂. alloc1 ! (λ l₃. alloc1 ! (λ l₄. alloc1 ! (λ l₅. alloc1 ! (λ l₆. alloc0 ! $ params1 ! $
-        pass1 ! (init ! 10 refl (typed W T.the-type T′.the-laws h was)) $ pass1 ! (init ! 8 refl (typed W Q.the-type Q′.the-laws request request-is)) $ pass0 ! $
-        -- [room for _6; …; room for _5; …; room for _4; …; room for _3; …; _2; …; _1; …; room for _0; …]
-        assigns ! (of-opd ! (load ! (from ! (stop !)) (look ! 10 refl))) (from ! (stop !)) (init ! 6 refl (typed W T.the-type T′.the-laws h was)) $
-        assigns ! (addr ! (from ! (stop !))) (from ! (stop !)) (init ! 2 refl (tt, tt)) $
-        unbounded ! tt $ owned ! T.the-row (Is T.the-row) (LL.makes T.the-type T′.the-plain 𝓤 H A) h _ was $ move ! (8 ∷ 0 ∷ 1 ∷ []) $
-        lent ! tt T.the-type [] fullShare l₃ h mach (λ ν γ.
-        use2 W (raw (Callee 𝓤 H A mem run .pre (to l₃ ν γ))) (goes l₃ ν γ) $
-        -- [what `offer` asks; a token; what is kept; room for _6; …; _5; …; room for _4; …; …; _2; …; _1; …; room for _0; …]
-        calls-at ! fm (Callee 𝓤 H A mem run) known (to l₃ ν γ)
-        (and-then ! (load ! (from ! (stop !)) (look ! 5 refl)) (and-then ! (load ! (from ! (stop !)) (look ! 10 refl)) (no-more !))) (λ v.
+        begins ! C Λ code.function (mach ∷ asked ∷ []) _ (typed W T.the-type T′.the-laws h was, (typed W Q.the-type Q′.the-laws request request-is, tt)) (λ bs.
+        let l = bs .1 .1 .1 .0 in
+        sets ! (cell 0 3) refl (of-opd ! (held ! (cell 0 1) refl)) (typed W T.the-type T′.the-laws h was) $
+        sets ! (cell 0 5) refl (addr ! (from ! (stop !))) (tt, tt) $
+        unbounded ! tt $ owned ! T.the-row (Is T.the-row) (LL.makes T.the-type T′.the-plain 𝓤 H A) h _ was $
+        lent ! tt T.the-type [] fullShare l (cell 0 3) h mach refl (λ ν γ. use2 W (raw (Callee 𝓤 H A mem run .pre (to l ν γ))) (goes l ν γ) $
+        -- [what `offer` asks; a token]
+        calls-at ! fm (Callee 𝓤 H A mem run) known (to l ν γ) (and-then ! (held ! (cell 2 5) refl) (and-then ! (held ! (cell 2 2) refl) (no-more !))) (λ v.
         returned ! tt v G.the-row (‵ (flft (ν ∷ []) (PosShare·left fullShare)) ⊛ ‵ ftrue)
         (λ (zs : Controller × (Unit {0} × Unit {0})). fres γ (T.the-row .coded .code (zs .0))) (λ zs. fsep ftrue ftrue)
         (λ r zs. offered (given r (zs .0)) ≡ offerOf h request) (λ r zs e is.
-        split ! $ move ! (0 ∷ 3 ∷ 2 ∷ 4 ∷ []) $ regained ! tt T.the-type [] fullShare l₃ T′.the-laws ν γ (zs .0) (λ after. drop ! $
-        -- [_3; the token; …; room for _6; …; _5; …; room for _4; …; …; _2; …; _1; …; room for _0; …]
-        land ! (from ! (stop !)) (init ! 7 refl (EL.lawful G.the-type G′.the-laws 𝓤 H A W tt .typed r _ is .0)) $
-        assigns ! (of-opd ! (load ! (from ! (stop !)) (look ! 0 refl))) (from ! (stop !)) (init ! 3 refl (typed W T.the-type T′.the-laws (zs .0) after)) $
-        assigns ! (agg ! (and-then ! (load ! (from ! (stop !)) (look ! 7 refl)) (and-then ! (load ! (from ! (stop !)) (look ! 3 refl)) (no-more !))))
-        (from ! (stop !)) (init ! 14 refl (LL.lawful S.the-type S′.the-laws 𝓤 H A W .typed (given r (zs .0)) _ (given-is r v (zs .0) is after) .0)) $
-        returns ! (look ! 14 refl) $ forget ! 0 refl $ forget ! 3 refl $ forget ! 5 refl $ forget ! 7 refl $ forget ! 10 refl $ forget ! 12 refl $
-        forget ! 14 refl $ move ! (14 ∷ 15 ∷ []) $ free1 ! $ move ! (12 ∷ 13 ∷ []) $ free1 ! $ move ! (10 ∷ 11 ∷ []) $ free1 ! $ move ! (0 ∷ 9 ∷ []) $ free1 ! $
-        move ! (6 ∷ 7 ∷ []) $ free1 ! $ move ! (4 ∷ 5 ∷ []) $ free1 ! $ move ! (2 ∷ 3 ∷ []) $ free1 ! $ free0 ! $
-        keep ! [] $ by ! (exits r v (zs .0) e (given-is r v (zs .0) is after)))))))))))))
+        split ! $ move ! (1 ∷ []) $ drop ! $ move ! (0 ∷ 2 ∷ 1 ∷ []) $
+        regained ! tt T.the-type [] fullShare l (cell 0 3) T′.the-laws ν γ (zs .0) refl (λ after. drop ! $ drop ! $
+        lands-in ! (cell 0 4) refl (EL.lawful G.the-type G′.the-laws 𝓤 H A W tt .typed r _ is .0) $
+        sets ! (cell 0 6) refl (of-opd ! (held ! (cell 0 3) refl)) (typed W T.the-type T′.the-laws (zs .0) after) $
+        sets ! (cell 0 0) refl (agg ! (and-then ! (held ! (cell 0 4) refl) (and-then ! (held ! (cell 0 6) refl) (no-more !))))
+        (LL.lawful S.the-type S′.the-laws 𝓤 H A W .typed (given r (zs .0)) _ (given-is r v (zs .0) is after) .0) $
+        returns ! (look ! (cell 0 0) refl) $ freed ! $ freed ! $ freed ! $ freed ! $ freed ! $ freed ! $ freed ! $ free0 ! $
+        by ! (exits r v (zs .0) e (given-is r v (zs .0) is after)))))))
 
 pub offer-through-spec : {M : Type 1} → stated.statement M
 unfolding code.routine

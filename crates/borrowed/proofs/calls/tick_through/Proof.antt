@@ -15,9 +15,8 @@ use ghost.Atoms.{Atoms}
 use contract.Monad.{Fun}
 use contract.Running.{givenOf}
 use types.Kit.{Given, ‵, raw, _⊛_, ⋆, _$_, _∵_, !, qed, by, move, keep, drop, use2, split, join, fjoin, suffices, frame, done}
-use types.Run.{look, init, forget, stop, fld, from, load, addr, of-opd, and-then, no-more}
-use types.Run.{assigns, land, returns, enter, alloc1, alloc0, params1, pass1, pass0, free1, free0}
-use types.Part.{agg, whole, sub, look-in}
+use types.Run.{look, stop, from, addr, of-opd, and-then, no-more, returns, free0}
+use types.Part.{agg, whole, sub}
 use sound.WpLaws.{FmC}
 use denote.Laws.{Is}
 use denote.Steps.{owned, nothing}
@@ -37,6 +36,7 @@ use Rattle.controller.proofs.Controller.Laws as T′
 use Rattle.controller.proofs.Ticked as S
 use Rattle.controller.proofs.Ticked.Laws as S′
 use Rattle.borrowed.specs.declared.calls.Given as answers
+use Rattle.borrowed.proofs.Locals.{cell, begins, freed, held, held-field, sets, lands-in}
 use Rattle.borrowed.proofs.Behind.{read, typed, reached}
 use Rattle.borrowed.proofs.Lending.{Ref, unbounded, lent, returned, regained}
 use Rattle.borrowed.proofs.calls.Given as G
@@ -96,31 +96,25 @@ module _ {M : Type 1} (𝓤 : URA M) (H : Heap 𝓤) (A : Atoms 𝓤) (W : Given
     walk : ent 𝓤 (onEntry 𝓤 H A through.signature tt tt (h, tt) (mach ∷ [], tt)) (WpFn 𝓤 H C Λ code.function (mach ∷ []) Post)
     walk =
         qed W (‵ ftrue ∷ ‵ (fsep (T.the-row .own h (mach ∷ [])) ftrue) ∷ []) ∵ keep ! [] $
-        enter ! C Λ code.function (mach ∷ []) _ $
-        alloc1 ! (λ l₀. alloc1 ! (λ l₁. alloc1 ! (λ l₂. alloc1 ! (λ l₃. alloc1 ! (λ l₄. alloc1 ! (λ l₅. alloc0 ! $ params1 ! $
-        pass1 ! (init ! 8 refl (typed W T.the-type T′.the-laws h was)) $ pass0 ! $
-        -- [room for _5; …; room for _4; …; room for _3; …; room for _2; …; _1; …; room for _0; …]
-        assigns ! (of-opd ! (load ! (from ! (stop !)) (look ! 8 refl))) (from ! (stop !)) (init ! 6 refl (typed W T.the-type T′.the-laws h was)) $
-        assigns ! (addr ! (from ! (stop !))) (from ! (stop !)) (init ! 2 refl (tt, tt)) $
-        unbounded ! tt $ owned ! T.the-row (Is T.the-row) (LL.makes T.the-type T′.the-plain 𝓤 H A) h _ was $ move ! (8 ∷ 0 ∷ 1 ∷ []) $
-        lent ! tt T.the-type [] fullShare l₂ h mach (λ ν γ.
-        use2 W (raw (Callee 𝓤 H A mem run .pre (to l₂ ν γ))) (goes l₂ ν γ) $
-        -- [what `tick` asks; a token; what is kept; room for _5; …; _4; …; room for _3; …; …; _1; …; room for _0; …]
-        calls-at ! fm (Callee 𝓤 H A mem run) known (to l₂ ν γ) (and-then ! (load ! (from ! (stop !)) (look ! 5 refl)) (no-more !)) (λ v.
-        returned ! tt v G.the-row (‵ (flft (ν ∷ []) (PosShare·left fullShare)) ⊛ ‵ ftrue) (λ (zs : Controller × Unit {0}). fres γ (T.the-row .coded .code (zs .0))) (λ zs. ftrue)
+        begins ! C Λ code.function (mach ∷ []) _ (typed W T.the-type T′.the-laws h was, tt) (λ bs. let l = bs .1 .1 .0 in
+        sets ! (cell 0 2) refl (of-opd ! (held ! (cell 0 1) refl)) (typed W T.the-type T′.the-laws h was) $
+        sets ! (cell 0 4) refl (addr ! (from ! (stop !))) (tt, tt) $
+        unbounded ! tt $ owned ! T.the-row (Is T.the-row) (LL.makes T.the-type T′.the-plain 𝓤 H A) h _ was $
+        lent ! tt T.the-type [] fullShare l (cell 0 2) h mach refl (λ ν γ. use2 W (raw (Callee 𝓤 H A mem run .pre (to l ν γ))) (goes l ν γ) $
+        -- [what `tick` asks; a token]
+        calls-at ! fm (Callee 𝓤 H A mem run) known (to l ν γ) (and-then ! (held ! (cell 2 4) refl) (no-more !)) (λ v.
+        returned ! tt v G.the-row (‵ (flft (ν ∷ []) (PosShare·left fullShare)) ⊛ ‵ ftrue)
+        (λ (zs : Controller × Unit {0}). fres γ (T.the-row .coded .code (zs .0))) (λ zs. ftrue)
         (λ r zs. ticked (given r (zs .0)) ≡ tickOf h) (λ r zs e is. read ! v G.the-type G′.the-laws r is (λ is.
-        split ! $ move ! (0 ∷ 3 ∷ 2 ∷ 4 ∷ []) $ regained ! tt T.the-type [] fullShare l₂ T′.the-laws ν γ (zs .0) (λ after. drop ! $
-        -- [_2; the token; …; room for _5; …; _4; …; room for _3; …; …; _1; …; room for _0; …]
-        land ! (from ! (stop !)) (init ! 7 refl (typed W G.the-type G′.the-laws r is)) $
-        assigns ! (of-opd ! (load ! (from ! (stop !)) (look ! 0 refl))) (from ! (stop !)) (init ! 3 refl (typed W T.the-type T′.the-laws (zs .0) after)) $
-        assigns ! (agg ! (and-then ! (load ! (from ! (fld ! refl (stop !))) (look-in ! 7 (sub ! 0 refl (whole !))))
-        (and-then ! (load ! (from ! (fld ! refl (stop !))) (look-in ! 7 (sub ! 1 refl (whole !))))
-        (and-then ! (load ! (from ! (stop !)) (look ! 3 refl)) (no-more !))))) (from ! (stop !))
-        (init ! 12 refl (typed W S.the-type S′.the-laws (given r (zs .0)) (given-is r (zs .0) is after))) $
-        returns ! (look ! 12 refl) $ forget ! 0 refl $ forget ! 3 refl $ forget ! 5 refl $ forget ! 7 refl $ forget ! 10 refl $ forget ! 12 refl $
-        move ! (12 ∷ 13 ∷ []) $ free1 ! $ move ! (10 ∷ 11 ∷ []) $ free1 ! $ move ! (0 ∷ 9 ∷ []) $ free1 ! $
-        move ! (6 ∷ 7 ∷ []) $ free1 ! $ move ! (4 ∷ 5 ∷ []) $ free1 ! $ move ! (2 ∷ 3 ∷ []) $ free1 ! $ free0 ! $
-        keep ! [] $ by ! (exits r (zs .0) e (given-is r (zs .0) is after)))))))))))))
+        split ! $ move ! (1 ∷ []) $ drop ! $ move ! (0 ∷ 2 ∷ 1 ∷ []) $
+        regained ! tt T.the-type [] fullShare l (cell 0 2) T′.the-laws ν γ (zs .0) refl (λ after. drop ! $ drop ! $
+        lands-in ! (cell 0 3) refl (typed W G.the-type G′.the-laws r is) $
+        sets ! (cell 0 5) refl (of-opd ! (held ! (cell 0 2) refl)) (typed W T.the-type T′.the-laws (zs .0) after) $
+        sets ! (cell 0 0) refl (agg ! (and-then ! (held-field ! (cell 0 3) refl (sub ! 0 refl (whole !)))
+        (and-then ! (held-field ! (cell 0 3) refl (sub ! 1 refl (whole !))) (and-then ! (held ! (cell 0 5) refl) (no-more !)))))
+        (typed W S.the-type S′.the-laws (given r (zs .0)) (given-is r (zs .0) is after)) $
+        returns ! (look ! (cell 0 0) refl) $ freed ! $ freed ! $ freed ! $ freed ! $ freed ! $ freed ! $ free0 ! $
+        by ! (exits r (zs .0) e (given-is r (zs .0) is after))))))))
 
 pub tick-through-spec : {M : Type 1} → stated.statement M
 unfolding code.routine
