@@ -13,17 +13,17 @@ use libc::STDOUT_FILENO;
 use protocol::Breach;
 use protocol::Verdict;
 
-fn text(bytes: &[u8]) {
+pub(crate) fn text(bytes: &[u8]) {
     io::write_all(STDOUT_FILENO, bytes);
 }
 
 // A blank and a number.
-fn number(n: u32) {
+pub(crate) fn number(n: u32) {
     text(b" ");
     io::print_decimal(STDOUT_FILENO, n as u64);
 }
 
-fn end() {
+pub(crate) fn end() {
     text(b"\n");
 }
 
@@ -46,13 +46,18 @@ pub(crate) fn config(answer: TimingAnswer) {
     end();
 }
 
-fn request(r: Request) {
+// A request's six numbers.
+pub(crate) fn fields(r: Request) {
     number(r.write as u32);
     number(r.bank);
     number(r.row);
     number(r.column);
     number(r.lower);
     number(r.upper);
+}
+
+fn request(r: Request) {
+    fields(r);
     end();
 }
 

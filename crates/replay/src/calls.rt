@@ -8,6 +8,9 @@ use crate::script::holds;
 use crate::script::request_at;
 use crate::script::start;
 use crate::script::word;
+use crate::shown;
+use crate::single;
+use crate::states;
 use crate::ticks;
 use crate::traces;
 use command::Operation;
@@ -28,6 +31,21 @@ pub(crate) fn call(bytes: &[u8], at: usize, state: State) -> Step {
         10 => traces::trace(bytes, at, state),
         11 => ticks::offer(bytes, at, state),
         12 => ticks::tick(bytes, at, state),
+        _ => test_call(code, bytes, at, state),
+    }
+}
+
+// The calls for tests alone.
+fn test_call(code: u32, bytes: &[u8], at: usize, state: State) -> Step {
+    match code {
+        101 => states::put_checker(bytes, at, state),
+        102 => states::put_controller(bytes, at, state),
+        103 => shown::show_checker(at, state),
+        104 => shown::show_controller(at, state),
+        105 => single::tick(false, at, state),
+        106 => single::tick(true, at, state),
+        107 => traces::trace(bytes, at, state),
+        108 => traces::trace(bytes, at, state),
         _ => Step { state, next: 0 },
     }
 }

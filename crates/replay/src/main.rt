@@ -3,16 +3,24 @@
 mod answers;
 mod calls;
 mod script;
+mod shown;
+mod single;
+mod states;
 mod ticks;
 mod traces;
 
 use config::Config;
-use libc::STDIN_FILENO;
+use libc::STDERR_FILENO;
 
 fn main() {
     let mut buffer = [0u8; 65537];
-    let n = io::read_full(STDIN_FILENO, &mut buffer);
-    run(&buffer[..n]);
+    let input = input::read(&mut buffer);
+    if input.failed {
+        io::write_all(STDERR_FILENO, b"replay: the input cannot be read\n");
+        return;
+    }
+    let count = input.count;
+    run(&buffer[..count]);
 }
 
 // At most 65,536 bytes, in whole words, one call after the other.

@@ -29,6 +29,28 @@ pub(crate) fn start(config: Config) -> State {
     }
 }
 
+// The state with another checker.
+pub(crate) fn with_checker(state: State, checker: Checker) -> State {
+    let config = state.config;
+    let controller = state.controller;
+    State {
+        config,
+        checker,
+        controller,
+    }
+}
+
+// The state with another controller.
+pub(crate) fn with_controller(state: State, controller: Controller) -> State {
+    let config = state.config;
+    let checker = state.checker;
+    State {
+        config,
+        checker,
+        controller,
+    }
+}
+
 // The call at this index has this many words, its code among them.
 pub(crate) fn holds(bytes: &[u8], at: usize, count: usize) -> bool {
     let words = bytes.len() / 4;

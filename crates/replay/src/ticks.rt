@@ -6,6 +6,7 @@ use crate::script::Step;
 use crate::script::ahead;
 use crate::script::holds;
 use crate::script::request_at;
+use crate::script::with_controller;
 use crate::script::word;
 use borrowed::offer_through;
 use borrowed::tick_through;
@@ -16,29 +17,20 @@ use controller::Offered;
 use controller::Ticked;
 use rules::DESL;
 
-// The state with another controller.
-fn with_controller(state: State, controller: Controller) -> State {
-    let config = state.config;
-    let checker = state.checker;
-    State {
-        config,
-        checker,
-        controller,
+// By value, or by lending the controller.
+fn offer_by(lent: bool, controller: Controller, request: Request) -> Offered {
+    if lent {
+        offer_through(controller, request)
+    } else {
+        controller.offer(request)
     }
 }
 
-// By value, or by the form that borrows.
-fn offer_by(code: u32, controller: Controller, request: Request) -> Offered {
-    match code {
-        4 => controller.offer(request),
-        _ => offer_through(controller, request),
-    }
-}
-
-fn tick_by(code: u32, controller: Controller) -> Ticked {
-    match code {
-        5 => controller.tick(),
-        _ => tick_through(controller),
+pub(crate) fn tick_by(lent: bool, controller: Controller) -> Ticked {
+    if lent {
+        tick_through(controller)
+    } else {
+        controller.tick()
     }
 }
 
@@ -49,7 +41,7 @@ pub(crate) fn offer(bytes: &[u8], at: usize, state: State) -> Step {
     }
     let controller = state.controller;
     let offered = offer_by(
-        word(bytes, at, 0),
+        word(bytes, at, 0) == 11,
         controller,
         request_at(bytes, ahead(at, 1)),
     );
@@ -67,11 +59,11 @@ fn accepted(answer: CallAnswer) -> bool {
 }
 
 // Ticks count times, ending at the first that is refused, and writes each word that is not DESL.
-fn tick_many(code: u32, controller: Controller, count: u32) -> Ticked {
+fn tick_many(lent: bool, controller: Controller, count: u32) -> Ticked {
     let mut now = controller;
     let mut left = count;
     while 0 < left {
-        let ticked = tick_by(code, now);
+        let ticked = tick_by(lent, now);
         let answer = ticked.answer;
         if !accepted(answer) {
             return ticked;
@@ -95,7 +87,7 @@ pub(crate) fn tick(bytes: &[u8], at: usize, state: State) -> Step {
         return Step { state, next: 0 };
     }
     let controller = state.controller;
-    let ticked = tick_many(word(bytes, at, 0), controller, word(bytes, at, 1));
+    let ticked = tick_many(word(bytes, at, 0) == 12, controller, word(bytes, at, 1));
     let answer = ticked.answer;
     let controller = ticked.controller;
     answers::ticked(answer, controller.clock);

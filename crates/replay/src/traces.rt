@@ -6,7 +6,9 @@ use crate::script::Step;
 use crate::script::ahead;
 use crate::script::holds;
 use crate::script::loaded;
+use crate::script::with_checker;
 use crate::script::word;
+use crate::single;
 use config::Config;
 use cursor::Moved;
 use cursor::Progress;
@@ -49,20 +51,10 @@ pub(crate) fn step(bytes: &[u8], at: usize, state: State) -> Step {
     }
     let checker = state.checker;
     let stepped = step_many(checker, word(bytes, at, 1), word(bytes, at, 2));
-    let config = state.config;
-    let controller = state.controller;
     let checker = stepped.checker;
     let verdict = stepped.verdict;
     answers::stepped(verdict, checker.clock);
-    behind(
-        State {
-            config,
-            checker,
-            controller,
-        },
-        at,
-        3,
-    )
+    behind(with_checker(state, checker), at, 3)
 }
 
 fn moved_on(progress: Progress) -> bool {
@@ -93,7 +85,7 @@ fn advance_many(words: &[u32], checker: Checker, count: usize) -> Moved {
     }
 }
 
-fn write_advance(moved: Moved) {
+pub(crate) fn write_advance(moved: Moved) {
     let progress = moved.progress;
     let checker = moved.checker;
     answers::advanced(progress, checker.clock);
@@ -116,16 +108,19 @@ fn trace_fits(bytes: &[u8], at: usize) -> bool {
     holds(bytes, at, ahead(count, 2))
 }
 
-// A call on the words of a trace, of which there are count.
-fn on_words(code: u32, count: u32, words: &[u32], config: Config) {
+// A call on the words of a trace, of which there are count; the checker is left as the call leaves it.
+fn on_words(code: u32, count: u32, words: &[u32], config: Config, checker: Checker) -> Checker {
     match code {
         3 => answers::checked(protocol::check(config, words), count),
         8 => answers::counted(counts::count_commands(words)),
-        _ => walk(words, config),
+        10 => walk(words, config),
+        107 => single::count(words),
+        _ => return single::advance(words, checker),
     }
+    checker
 }
 
-// 3: the whole check. 8: count the commands. 10: a walk.
+// 3: the whole check. 8 and 107: count the commands. 10: a walk. 108: one advance.
 pub(crate) fn trace(bytes: &[u8], at: usize, state: State) -> Step {
     if !trace_fits(bytes, at) {
         return Step { state, next: 0 };
@@ -135,8 +130,9 @@ pub(crate) fn trace(bytes: &[u8], at: usize, state: State) -> Step {
     let length = count as usize;
     let buffer = loaded(bytes, ahead(at, 2));
     let config = state.config;
+    let mut checker = state.checker;
     if length <= 16384 {
-        on_words(code, count, &buffer[..length], config);
+        checker = on_words(code, count, &buffer[..length], config, checker);
     }
-    behind(state, at, ahead(length, 2))
+    behind(with_checker(state, checker), at, ahead(length, 2))
 }

@@ -31,10 +31,16 @@ array-share-prefix-buffer : tie.Need-array-share-prefix-buffer
 array-share-prefix-buffer c = search needs
 
 slice-aggregate-on-words : tie.Need-slice-aggregate-on-words
-slice-aggregate-on-words c = sym (length-take-le (c .before .before .before .before .before .word2 .result) (c .before .before .before .loaded .result) (omega arith))
+slice-aggregate-on-words c =
+    let length = c .before .before .before .before .before .before .word2 .result in
+    let buffer = c .before .before .before .before .loaded .result in
+    sym (length-take-le length buffer (omega arith))
 
 on-words-requires : tie.Need-on-words-requires
 on-words-requires c κs = search needs
+
+with-checker-requires : tie.Need-with-checker-requires
+with-checker-requires c κs = search needs
 
 ahead-requires-2 : tie.Need-ahead-requires-2
 ahead-requires-2 c κs = search needs
@@ -59,6 +65,7 @@ trace-spec =
     array-share-prefix-buffer
     slice-aggregate-on-words
     on-words-requires
+    with-checker-requires
     ahead-requires-2
     behind-requires
     returns-2)
