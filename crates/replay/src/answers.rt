@@ -7,6 +7,7 @@ use config::Refusal;
 use config::TimingAnswer;
 use controller::CallAnswer;
 use controller::Controller;
+use counts::CommandCounts;
 use counts::CountsAnswer;
 use cursor::Progress;
 use libc::STDOUT_FILENO;
@@ -145,16 +146,21 @@ pub(crate) fn checked(verdict: Verdict, count: u32) {
     }
 }
 
+// The five counts, and the line's end.
+pub(crate) fn five(counts: CommandCounts) {
+    number(counts.reads);
+    number(counts.writes);
+    number(counts.modes);
+    number(counts.refreshes);
+    number(counts.desls);
+    end();
+}
+
 pub(crate) fn counted(answer: CountsAnswer) {
     match answer {
         CountsAnswer::Counted(counts) => {
             text(b"counts");
-            number(counts.reads);
-            number(counts.writes);
-            number(counts.modes);
-            number(counts.refreshes);
-            number(counts.desls);
-            end();
+            five(counts);
         }
         CountsAnswer::Refused(why, _) => refused(why),
     }

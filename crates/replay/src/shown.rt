@@ -1,15 +1,15 @@
-// Whole states as lines of numbers, and the calls that write them.
+// Whole states and whole answers, each a line of numbers.
 use crate::answers::end;
 use crate::answers::fields;
+use crate::answers::five;
 use crate::answers::number;
 use crate::answers::text;
-use crate::calls::behind;
-use crate::script::State;
-use crate::script::Step;
 use command::Request;
 use config::Config;
+use controller::CallAnswer;
 use controller::Controller;
 use controller::OpenPair;
+use counts::CountsAnswer;
 use protocol::Checker;
 use rules::Timestamps;
 
@@ -44,7 +44,8 @@ fn timestamps(stamps: Timestamps) {
     eight(refs);
 }
 
-fn checker(checker: Checker) {
+// 103: the checker's state.
+pub(crate) fn checker(checker: Checker) {
     let config = checker.config;
     let stamps = checker.stamps;
     text(b"checker");
@@ -73,7 +74,8 @@ fn sixteen(requests: [Request; 16]) {
     }
 }
 
-fn controller(controller: Controller) {
+// 104: the controller's state.
+pub(crate) fn controller(controller: Controller) {
     let config = controller.config;
     let opened = controller.opened;
     let stamps = controller.stamps;
@@ -88,16 +90,28 @@ fn controller(controller: Controller) {
     end();
 }
 
-// 103: the checker's state.
-pub(crate) fn show_checker(at: usize, state: State) -> Step {
-    let held = state.checker;
-    checker(held);
-    behind(state, at, 1)
+// 105 and 106: a tick's answer and its word.
+pub(crate) fn ticked(answer: CallAnswer, word: u32) {
+    text(b"tick");
+    match answer {
+        CallAnswer::Accepted => number(0),
+        CallAnswer::Refused(why) => number(why.number()),
+    }
+    number(word);
+    end();
 }
 
-// 104: the controller's state.
-pub(crate) fn show_controller(at: usize, state: State) -> Step {
-    let held = state.controller;
-    controller(held);
-    behind(state, at, 1)
+// 107: the answer and the five counts.
+pub(crate) fn counted(answer: CountsAnswer) {
+    text(b"counts");
+    match answer {
+        CountsAnswer::Counted(counts) => {
+            number(0);
+            five(counts);
+        }
+        CountsAnswer::Refused(why, counts) => {
+            number(why.number());
+            five(counts);
+        }
+    }
 }

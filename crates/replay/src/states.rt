@@ -1,13 +1,7 @@
-// States given number by number, and the calls that put the checker and the controller into them.
-use crate::calls::behind;
-use crate::script::State;
-use crate::script::Step;
+// States given number by number.
 use crate::script::ahead;
 use crate::script::config_at;
-use crate::script::holds;
 use crate::script::request_at;
-use crate::script::with_checker;
-use crate::script::with_controller;
 use crate::script::word;
 use command::Request;
 use controller::Controller;
@@ -41,7 +35,8 @@ fn stamps_at(bytes: &[u8], at: usize) -> Timestamps {
     }
 }
 
-fn checker_at(bytes: &[u8], at: usize) -> Checker {
+// 101: the checker's state.
+pub(crate) fn checker_at(bytes: &[u8], at: usize) -> Checker {
     Checker {
         config: config_at(bytes, at),
         clock: word(bytes, at, 10),
@@ -74,7 +69,8 @@ fn waiting_at(bytes: &[u8], at: usize) -> [Request; 16] {
     waiting
 }
 
-fn controller_at(bytes: &[u8], at: usize) -> Controller {
+// 102: the controller's state.
+pub(crate) fn controller_at(bytes: &[u8], at: usize) -> Controller {
     Controller {
         config: config_at(bytes, at),
         clock: word(bytes, at, 10),
@@ -83,25 +79,4 @@ fn controller_at(bytes: &[u8], at: usize) -> Controller {
         waiting: waiting_at(bytes, ahead(at, 34)),
         count: word(bytes, at, 33),
     }
-}
-
-// 101: put the checker into a state.
-pub(crate) fn put_checker(bytes: &[u8], at: usize, state: State) -> Step {
-    if !holds(bytes, at, 36) {
-        return Step { state, next: 0 };
-    }
-    let checker = checker_at(bytes, ahead(at, 1));
-    behind(with_checker(state, checker), at, 36)
-}
-
-// 102: put the controller into a state; its open pair is one of five.
-pub(crate) fn put_controller(bytes: &[u8], at: usize, state: State) -> Step {
-    if !holds(bytes, at, 131) {
-        return Step { state, next: 0 };
-    }
-    if 4 < word(bytes, at, 12) {
-        return Step { state, next: 0 };
-    }
-    let controller = controller_at(bytes, ahead(at, 1));
-    behind(with_controller(state, controller), at, 131)
 }
