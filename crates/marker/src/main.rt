@@ -1,5 +1,4 @@
 // Marks the trace on standard input by the institute's own configuration, and writes one line.
-mod input;
 mod line;
 mod mark;
 

@@ -1,29 +1,30 @@
 // The lines that answers are written as.
 use command::Operation;
-use command::ReadAnswer;
 use command::Request;
-use command::WriteAnswer;
 use config::Refusal;
 use config::TimingAnswer;
 use controller::CallAnswer;
 use controller::Controller;
+use counts::CommandCounts;
 use counts::CountsAnswer;
 use cursor::Progress;
 use libc::STDOUT_FILENO;
 use protocol::Breach;
 use protocol::Verdict;
+use reading::ReadAnswer;
+use writing::WriteAnswer;
 
-fn text(bytes: &[u8]) {
+pub(crate) fn text(bytes: &[u8]) {
     io::write_all(STDOUT_FILENO, bytes);
 }
 
 // A blank and a number.
-fn number(n: u32) {
+pub(crate) fn number(n: u32) {
     text(b" ");
     io::print_decimal(STDOUT_FILENO, n as u64);
 }
 
-fn end() {
+pub(crate) fn end() {
     text(b"\n");
 }
 
@@ -46,13 +47,18 @@ pub(crate) fn config(answer: TimingAnswer) {
     end();
 }
 
-fn request(r: Request) {
+// A request's six numbers.
+pub(crate) fn fields(r: Request) {
     number(r.write as u32);
     number(r.bank);
     number(r.row);
     number(r.column);
     number(r.lower);
     number(r.upper);
+}
+
+fn request(r: Request) {
+    fields(r);
     end();
 }
 
@@ -140,16 +146,21 @@ pub(crate) fn checked(verdict: Verdict, count: u32) {
     }
 }
 
+// The five counts, and the line's end.
+pub(crate) fn five(counts: CommandCounts) {
+    number(counts.reads);
+    number(counts.writes);
+    number(counts.modes);
+    number(counts.refreshes);
+    number(counts.desls);
+    end();
+}
+
 pub(crate) fn counted(answer: CountsAnswer) {
     match answer {
         CountsAnswer::Counted(counts) => {
             text(b"counts");
-            number(counts.reads);
-            number(counts.writes);
-            number(counts.modes);
-            number(counts.refreshes);
-            number(counts.desls);
-            end();
+            five(counts);
         }
         CountsAnswer::Refused(why, _) => refused(why),
     }

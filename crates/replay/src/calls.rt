@@ -1,96 +1,48 @@
-// One function for each code of the script. Each answers the index behind its call, or 0 where the script ends inside it.
+// The calls on a configuration and no state.
 use crate::answers;
-use crate::script::State;
-use crate::script::Step;
 use crate::script::ahead;
 use crate::script::config_at;
-use crate::script::holds;
 use crate::script::request_at;
-use crate::script::start;
 use crate::script::word;
-use crate::ticks;
-use crate::traces;
 use command::Operation;
 use command::Pair;
+use config::Config;
 
-pub(crate) fn call(bytes: &[u8], at: usize, state: State) -> Step {
-    let code = word(bytes, at, 0);
-    match code {
-        1 => configure(bytes, at, state),
-        2 => traces::step(bytes, at, state),
-        3 => traces::trace(bytes, at, state),
-        4 => ticks::offer(bytes, at, state),
-        5 => ticks::tick(bytes, at, state),
-        6 => read(bytes, at, state),
-        7 => write(bytes, at, state),
-        8 => traces::trace(bytes, at, state),
-        9 => ticks::waiting(at, state),
-        10 => traces::trace(bytes, at, state),
-        11 => ticks::offer(bytes, at, state),
-        12 => ticks::tick(bytes, at, state),
-        _ => Step { state, next: 0 },
-    }
-}
-
-// The step behind a call of this many words.
-pub(crate) fn behind(state: State, at: usize, count: usize) -> Step {
-    Step {
-        state,
-        next: ahead(at, count),
-    }
-}
-
-// 1: test the configuration, and start anew on it.
-fn configure(bytes: &[u8], at: usize, state: State) -> Step {
-    if !holds(bytes, at, 11) {
-        return Step { state, next: 0 };
+// 1: test the configuration, and go on with it, accepted or not. Any other call leaves the one that is held.
+pub(crate) fn configure(bytes: &[u8], at: usize, held: Config) -> Config {
+    if word(bytes, at, 0) != 1 {
+        return held;
     }
     let config = config_at(bytes, ahead(at, 1));
     answers::config(config.timing());
-    behind(start(config), at, 11)
+    config
 }
 
-// 6: read the pair.
-fn read(bytes: &[u8], at: usize, state: State) -> Step {
-    if !holds(bytes, at, 3) {
-        return Step { state, next: 0 };
-    }
-    let pair = Pair {
-        first: word(bytes, at, 1),
-        second: word(bytes, at, 2),
-    };
-    let config = state.config;
-    answers::read(command::read_pair(config, pair));
-    behind(state, at, 3)
-}
-
-// 7: write the pair of an operation, whose length goes by its kind.
-fn write(bytes: &[u8], at: usize, state: State) -> Step {
-    let kind = word(bytes, at, 1);
-    match kind {
-        0 => write_operation(bytes, at, state, 8),
-        1 => write_operation(bytes, at, state, 3),
-        2 => write_operation(bytes, at, state, 3),
-        3 => write_operation(bytes, at, state, 2),
-        _ => Step { state, next: 0 },
+fn pair_at(bytes: &[u8], at: usize) -> Pair {
+    Pair {
+        first: word(bytes, at, 0),
+        second: word(bytes, at, 1),
     }
 }
 
+// Its kind, and what goes with that.
 fn operation_at(bytes: &[u8], at: usize) -> Operation {
-    let kind = word(bytes, at, 1);
+    let kind = word(bytes, at, 0);
     match kind {
-        0 => Operation::Access(request_at(bytes, ahead(at, 2))),
-        1 => Operation::Regular(word(bytes, at, 2) != 0),
-        2 => Operation::Extended(word(bytes, at, 2)),
+        0 => Operation::Access(request_at(bytes, ahead(at, 1))),
+        1 => Operation::Regular(word(bytes, at, 1) != 0),
+        2 => Operation::Extended(word(bytes, at, 1)),
         _ => Operation::Refresh,
     }
 }
 
-fn write_operation(bytes: &[u8], at: usize, state: State, count: usize) -> Step {
-    if !holds(bytes, at, count) {
-        return Step { state, next: 0 };
+// 6: read the pair. 7: write the pair of an operation.
+pub(crate) fn pair(bytes: &[u8], at: usize, config: Config) {
+    let code = word(bytes, at, 0);
+    let numbers = ahead(at, 1);
+    match code {
+        6 => answers::read(reading::read_pair(config, pair_at(bytes, numbers))),
+        7 => answers::written(writing::write_pair(config, operation_at(bytes, numbers))),
+        _ => {}
     }
-    let config = state.config;
-    answers::written(command::write_pair(config, operation_at(bytes, at)));
-    behind(state, at, count)
 }

@@ -3,19 +3,29 @@
 mod answers;
 mod calls;
 mod script;
+mod shown;
+mod sizes;
+mod states;
 mod ticks;
 mod traces;
 
 use config::Config;
-use libc::STDIN_FILENO;
+use controller::Controller;
+use libc::STDERR_FILENO;
+use protocol::Checker;
 
 fn main() {
     let mut buffer = [0u8; 65537];
-    let n = io::read_full(STDIN_FILENO, &mut buffer);
-    run(&buffer[..n]);
+    let input = input::read(&mut buffer);
+    if input.failed {
+        io::write_all(STDERR_FILENO, b"replay: the input cannot be read\n");
+        return;
+    }
+    let count = input.count;
+    run(&buffer[..count]);
 }
 
-// At most 65,536 bytes, in whole words, one call after the other.
+// At most 65,536 bytes, in whole words, one call after the other. A call is of one kind, and the functions of the others leave it alone.
 fn run(bytes: &[u8]) {
     if 65536 < bytes.len() {
         answers::script_refused();
@@ -26,15 +36,19 @@ fn run(bytes: &[u8]) {
         return;
     }
     let mut at = 0;
-    let mut state = script::start(Config::institute());
+    let mut config = Config::institute();
+    let mut checker = Checker::fresh(config);
+    let mut controller = Controller::fresh(config);
     while at < bytes.len() / 4 {
-        let step = calls::call(bytes, at, state);
-        let next = step.next;
+        let next = sizes::behind(bytes, at);
         if next <= at {
             answers::script_refused();
             return;
         }
+        config = calls::configure(bytes, at, config);
+        calls::pair(bytes, at, config);
+        checker = traces::after(bytes, at, config, checker);
+        controller = ticks::after(bytes, at, config, controller);
         at = next;
-        state = step.state;
     }
 }

@@ -1,42 +1,10 @@
-// The script's words, and what the program holds between calls.
+// The script's words.
 use command::Request;
-use controller::Controller;
-use protocol::Checker;
 ghost use mathlib.Core.Path.{_≡_};
 ghost use lib.ListN.{length};
 use config::Clocks;
 use config::Config;
 use config::Picoseconds;
-
-pub struct State {
-    pub config: Config,
-    pub checker: Checker,
-    pub controller: Controller,
-}
-
-// The state after a call, and the index of the word behind it; an index that is not larger refuses the script.
-pub struct Step {
-    pub state: State,
-    pub next: usize,
-}
-
-// A fresh checker and a fresh controller on a configuration, accepted or not.
-pub(crate) fn start(config: Config) -> State {
-    State {
-        config,
-        checker: Checker::fresh(config),
-        controller: Controller::fresh(config),
-    }
-}
-
-// The call at this index has this many words, its code among them.
-pub(crate) fn holds(bytes: &[u8], at: usize, count: usize) -> bool {
-    let words = bytes.len() / 4;
-    if words < at {
-        return false;
-    }
-    count <= words - at
-}
 
 // The index that is a number of words further on; 0 past any script.
 pub(crate) fn ahead(at: usize, count: usize) -> usize {

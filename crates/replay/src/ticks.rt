@@ -1,62 +1,43 @@
-// The calls on the controller: offer a request, tick, show the requests that wait.
+// The calls on the controller.
 use crate::answers;
-use crate::calls::behind;
-use crate::script::State;
-use crate::script::Step;
 use crate::script::ahead;
-use crate::script::holds;
 use crate::script::request_at;
 use crate::script::word;
+use crate::shown;
+use crate::states::controller_at;
 use borrowed::offer_through;
 use borrowed::tick_through;
 use command::Request;
+use config::Config;
 use controller::CallAnswer;
 use controller::Controller;
 use controller::Offered;
 use controller::Ticked;
 use stamps::DESL;
 
-// The state with another controller.
-fn with_controller(state: State, controller: Controller) -> State {
-    let config = state.config;
-    let checker = state.checker;
-    State {
-        config,
-        checker,
-        controller,
+// By value, or by lending the controller.
+fn offer_by(lent: bool, controller: Controller, request: Request) -> Offered {
+    if lent {
+        offer_through(controller, request)
+    } else {
+        controller.offer(request)
     }
 }
 
-// By value, or by the form that borrows.
-fn offer_by(code: u32, controller: Controller, request: Request) -> Offered {
-    match code {
-        4 => controller.offer(request),
-        _ => offer_through(controller, request),
-    }
-}
-
-fn tick_by(code: u32, controller: Controller) -> Ticked {
-    match code {
-        5 => controller.tick(),
-        _ => tick_through(controller),
+fn tick_by(lent: bool, controller: Controller) -> Ticked {
+    if lent {
+        tick_through(controller)
+    } else {
+        controller.tick()
     }
 }
 
 // 4 and 11: offer the request.
-pub(crate) fn offer(bytes: &[u8], at: usize, state: State) -> Step {
-    if !holds(bytes, at, 7) {
-        return Step { state, next: 0 };
-    }
-    let controller = state.controller;
-    let offered = offer_by(
-        word(bytes, at, 0),
-        controller,
-        request_at(bytes, ahead(at, 1)),
-    );
+fn offer(lent: bool, controller: Controller, request: Request) -> Controller {
+    let offered = offer_by(lent, controller, request);
     let answer = offered.answer;
-    let controller = offered.controller;
     answers::offered(answer);
-    behind(with_controller(state, controller), at, 7)
+    offered.controller
 }
 
 fn accepted(answer: CallAnswer) -> bool {
@@ -67,11 +48,11 @@ fn accepted(answer: CallAnswer) -> bool {
 }
 
 // Ticks count times, ending at the first that is refused, and writes each word that is not DESL.
-fn tick_many(code: u32, controller: Controller, count: u32) -> Ticked {
+fn tick_many(lent: bool, controller: Controller, count: u32) -> Ticked {
     let mut now = controller;
     let mut left = count;
     while 0 < left {
-        let ticked = tick_by(code, now);
+        let ticked = tick_by(lent, now);
         let answer = ticked.answer;
         if !accepted(answer) {
             return ticked;
@@ -90,21 +71,39 @@ fn tick_many(code: u32, controller: Controller, count: u32) -> Ticked {
 }
 
 // 5 and 12: tick.
-pub(crate) fn tick(bytes: &[u8], at: usize, state: State) -> Step {
-    if !holds(bytes, at, 2) {
-        return Step { state, next: 0 };
-    }
-    let controller = state.controller;
-    let ticked = tick_many(word(bytes, at, 0), controller, word(bytes, at, 1));
+fn tick(lent: bool, controller: Controller, count: u32) -> Controller {
+    let ticked = tick_many(lent, controller, count);
     let answer = ticked.answer;
-    let controller = ticked.controller;
-    answers::ticked(answer, controller.clock);
-    behind(with_controller(state, controller), at, 2)
+    let after = ticked.controller;
+    answers::ticked(answer, after.clock);
+    after
 }
 
-// 9: the requests waiting.
-pub(crate) fn waiting(at: usize, state: State) -> Step {
-    let controller = state.controller;
-    answers::waiting(controller);
-    behind(state, at, 1)
+// 105 and 106: one tick, and the word also of a refused one.
+fn tick_once(lent: bool, controller: Controller) -> Controller {
+    let ticked = tick_by(lent, controller);
+    let answer = ticked.answer;
+    shown::ticked(answer, ticked.word);
+    ticked.controller
+}
+
+// The controller after a call; one of another kind leaves it, and 1 starts anew.
+pub(crate) fn after(bytes: &[u8], at: usize, config: Config, controller: Controller) -> Controller {
+    let code = word(bytes, at, 0);
+    match code {
+        1 => Controller::fresh(config),
+        4 | 11 => offer(code == 11, controller, request_at(bytes, ahead(at, 1))),
+        5 | 12 => tick(code == 12, controller, word(bytes, at, 1)),
+        9 => {
+            answers::waiting(controller);
+            controller
+        }
+        102 => controller_at(bytes, ahead(at, 1)),
+        104 => {
+            shown::controller(controller);
+            controller
+        }
+        105 | 106 => tick_once(code == 106, controller),
+        _ => controller,
+    }
 }

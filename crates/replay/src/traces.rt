@@ -1,12 +1,10 @@
-// The calls on words of a trace: step the checker, check a whole trace, count its commands, walk over it.
+// The calls on the checker and on words of a trace.
 use crate::answers;
-use crate::calls::behind;
-use crate::script::State;
-use crate::script::Step;
 use crate::script::ahead;
-use crate::script::holds;
 use crate::script::loaded;
 use crate::script::word;
+use crate::shown;
+use crate::states::checker_at;
 use config::Config;
 use cursor::Moved;
 use cursor::Progress;
@@ -43,26 +41,12 @@ fn step_many(checker: Checker, count: u32, word: u32) -> Stepped {
 }
 
 // 2: step the checker.
-pub(crate) fn step(bytes: &[u8], at: usize, state: State) -> Step {
-    if !holds(bytes, at, 3) {
-        return Step { state, next: 0 };
-    }
-    let checker = state.checker;
-    let stepped = step_many(checker, word(bytes, at, 1), word(bytes, at, 2));
-    let config = state.config;
-    let controller = state.controller;
-    let checker = stepped.checker;
+fn step(checker: Checker, count: u32, word: u32) -> Checker {
+    let stepped = step_many(checker, count, word);
     let verdict = stepped.verdict;
-    answers::stepped(verdict, checker.clock);
-    behind(
-        State {
-            config,
-            checker,
-            controller,
-        },
-        at,
-        3,
-    )
+    let after = stepped.checker;
+    answers::stepped(verdict, after.clock);
+    after
 }
 
 fn moved_on(progress: Progress) -> bool {
@@ -93,50 +77,61 @@ fn advance_many(words: &[u32], checker: Checker, count: usize) -> Moved {
     }
 }
 
-fn write_advance(moved: Moved) {
+// Writes an advance's answer; the checker is the one that it left.
+fn advanced(moved: Moved) -> Checker {
     let progress = moved.progress;
     let checker = moved.checker;
     answers::advanced(progress, checker.clock);
+    checker
 }
 
 // A walk as far as it goes, and once more. A script has no more than 16,384 words.
 fn walk(words: &[u32], config: Config) {
-    let stopped = advance_many(words, Checker::fresh(config), 16385);
-    write_advance(stopped);
-    let checker = stopped.checker;
-    write_advance(advance_through(words, checker));
+    let stopped = advanced(advance_many(words, Checker::fresh(config), 16385));
+    advanced(advance_through(words, stopped));
 }
 
-// The words of a call that holds their number and then them; refused where the script ends inside it.
-fn trace_fits(bytes: &[u8], at: usize) -> bool {
-    let count = word(bytes, at, 1) as usize;
-    if 65536 < count {
-        return false;
-    }
-    holds(bytes, at, ahead(count, 2))
-}
-
-// A call on the words of a trace, of which there are count.
-fn on_words(code: u32, count: u32, words: &[u32], config: Config) {
+// 3: the whole check. 8 and 107: count the commands. 10: a walk. 108: one advance.
+fn on_words(code: u32, count: u32, words: &[u32], config: Config, checker: Checker) -> Checker {
     match code {
         3 => answers::checked(protocol::check(config, words), count),
         8 => answers::counted(counts::count_commands(words)),
-        _ => walk(words, config),
+        10 => walk(words, config),
+        107 => shown::counted(counts::count_commands(words)),
+        _ => return advanced(advance_through(words, checker)),
     }
+    checker
 }
 
-// 3: the whole check. 8: count the commands. 10: a walk.
-pub(crate) fn trace(bytes: &[u8], at: usize, state: State) -> Step {
-    if !trace_fits(bytes, at) {
-        return Step { state, next: 0 };
-    }
-    let code = word(bytes, at, 0);
+// A call on the words of a trace.
+fn trace(bytes: &[u8], at: usize, config: Config, checker: Checker) -> Checker {
     let count = word(bytes, at, 1);
     let length = count as usize;
     let buffer = loaded(bytes, ahead(at, 2));
-    let config = state.config;
     if length <= 16384 {
-        on_words(code, count, &buffer[..length], config);
+        return on_words(
+            word(bytes, at, 0),
+            count,
+            &buffer[..length],
+            config,
+            checker,
+        );
     }
-    behind(state, at, ahead(length, 2))
+    checker
+}
+
+// The checker after a call; one of another kind leaves it, and 1 starts anew.
+pub(crate) fn after(bytes: &[u8], at: usize, config: Config, checker: Checker) -> Checker {
+    let code = word(bytes, at, 0);
+    match code {
+        1 => Checker::fresh(config),
+        2 => step(checker, word(bytes, at, 1), word(bytes, at, 2)),
+        3 | 8 | 10 | 107 | 108 => trace(bytes, at, config, checker),
+        101 => checker_at(bytes, ahead(at, 1)),
+        103 => {
+            shown::checker(checker);
+            checker
+        }
+        _ => checker,
+    }
 }

@@ -4,10 +4,10 @@ use Rattle.replay.proofs.ticks.tick_many.Statement.{statement}
 use Rattle.replay.proofs.ticks.tick_many.Tie as tie
 
 abbrev Inv-loop : tie.InvT-loop
-Inv-loop code count now₀ left₀ now left = Unit {0}
+Inv-loop lent count now₀ left₀ now left = Unit {0}
 
 abbrev μ-loop : tie.MeasureT-loop
-μ-loop code count now₀ left₀ now left = left
+μ-loop lent count now₀ left₀ now left = left
 
 loop-holds : tie.Need-loop-holds Inv-loop μ-loop
 loop-holds c = search needs

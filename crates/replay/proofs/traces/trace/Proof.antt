@@ -6,17 +6,8 @@ use borrow.Author.Needs.{needs}
 use Rattle.replay.proofs.traces.trace.Statement.{statement}
 use Rattle.replay.proofs.traces.trace.Tie as tie
 
-trace-fits-requires : tie.Need-trace-fits-requires
-trace-fits-requires c κs = search needs
-
-returns : tie.Need-returns
-returns c = search needs
-
 word-requires : tie.Need-word-requires
 word-requires c κs = search needs
-
-word-requires-2 : tie.Need-word-requires-2
-word-requires-2 c κs = search needs
 
 cast-length : tie.Need-cast-length
 cast-length c = search needs
@@ -27,20 +18,23 @@ ahead-requires c κs = search needs
 loaded-requires : tie.Need-loaded-requires
 loaded-requires c κs = search needs
 
+word-requires-2 : tie.Need-word-requires-2
+word-requires-2 c κs = search needs
+
 array-share-prefix-buffer : tie.Need-array-share-prefix-buffer
 array-share-prefix-buffer c = search needs
 
 slice-aggregate-on-words : tie.Need-slice-aggregate-on-words
-slice-aggregate-on-words c = sym (length-take-le (c .before .before .before .before .before .word2 .result) (c .before .before .before .loaded .result) (omega arith))
+slice-aggregate-on-words c =
+    let length = c .before .before .before .before .before .word .result in
+    let buffer = c .before .before .before .loaded .result in
+    sym (length-take-le length buffer (omega arith))
 
 on-words-requires : tie.Need-on-words-requires
 on-words-requires c κs = search needs
 
-ahead-requires-2 : tie.Need-ahead-requires-2
-ahead-requires-2 c κs = search needs
-
-behind-requires : tie.Need-behind-requires
-behind-requires c κs = search needs
+returns : tie.Need-returns
+returns c = search needs
 
 returns-2 : tie.Need-returns-2
 returns-2 c = search needs
@@ -49,16 +43,13 @@ pub trace-spec : {M : Type 1} → statement M
 trace-spec =
     tie.close
     (tie.spec
-    trace-fits-requires
-    returns
     word-requires
-    word-requires-2
     cast-length
     ahead-requires
     loaded-requires
+    word-requires-2
     array-share-prefix-buffer
     slice-aggregate-on-words
     on-words-requires
-    ahead-requires-2
-    behind-requires
+    returns
     returns-2)

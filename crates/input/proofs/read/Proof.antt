@@ -1,16 +1,13 @@
 -- The invariant: at most the buffer's length was read. Each turn reads at least one byte. Assumes nothing.
 use Prim.Native.Nat.{ℕ, _-_, _≤_}
-use mathlib.Core.Path.{_≡_, sym}
-use mathlib.Core.List.{List}
+use mathlib.Core.Path.{_≡_}
+use mathlib.Core.Bool.{false≢true}
+use native.Mathlib.Omega.{arith}
 use lib.ListN.{length}
-use lib.Seq.{length-take-le}
-use Rattle.io.specs.Counts.{Counts}
+use Rattle.io.proofs.Counting.{counts}
 use borrow.Author.Needs.{needs}
-use Rattle.marker.proofs.input.read.Statement.{statement}
-use Rattle.marker.proofs.input.read.Tie as tie
-
-counts : (n : ℕ) (xs : List ℕ) → n ≤ length xs → Counts n xs
-counts n xs h = (h, sym (length-take-le n xs h))
+use Rattle.input.proofs.read.Statement.{statement}
+use Rattle.input.proofs.read.Tie as tie
 
 abbrev Inv-loop : tie.InvT-loop
 Inv-loop buffer₀ count₀ buffer count = (count ≤ length buffer) × (length buffer ≡ length buffer₀)
@@ -45,11 +42,14 @@ part-count-end c = search needs
 count-requires : tie.Need-count-requires Inv-loop μ-loop
 count-requires c κs = search needs
 
+failed-requires : tie.Need-failed-requires Inv-loop μ-loop
+failed-requires c κs = search needs
+
 same-length : tie.Need-same-length Inv-loop μ-loop
 same-length c = search needs
 
 returns : tie.Need-returns Inv-loop μ-loop
-returns c = counts _ _ (search needs)
+returns c = record { counts = counts _ _ (search needs); short = λ _. omega arith }
 
 add-count : tie.Need-add-count Inv-loop μ-loop
 add-count c = search needs
@@ -64,7 +64,7 @@ same-length-2 : tie.Need-same-length-2 Inv-loop μ-loop
 same-length-2 c = search needs
 
 returns-2 : tie.Need-returns-2 Inv-loop μ-loop
-returns-2 c = counts _ _ (search needs)
+returns-2 c = record { counts = counts _ _ (search needs); short = λ e. absurd (false≢true e) }
 
 pub read-spec : {M : Type 1} → statement M
 read-spec =
@@ -81,6 +81,7 @@ read-spec =
     part-count-start
     part-count-end
     count-requires
+    failed-requires
     same-length
     returns
     add-count

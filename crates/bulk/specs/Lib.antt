@@ -1,0 +1,4 @@
+-- What the contracts of this crate say.
+pub mod Numbers
+pub mod Walks
+pub mod Stored

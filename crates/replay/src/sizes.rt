@@ -1,0 +1,57 @@
+// How many words each call of the script has.
+use crate::script::ahead;
+use crate::script::word;
+
+// The code, the number of words, and the words; none for more than any script holds.
+fn of_trace(count: u32) -> usize {
+    let length = count as usize;
+    if 65536 < length {
+        return 0;
+    }
+    2 + length
+}
+
+// The code and an operation, whose length goes by its kind.
+fn of_operation(kind: u32) -> usize {
+    match kind {
+        0 => 8,
+        1 => 3,
+        2 => 3,
+        3 => 2,
+        _ => 0,
+    }
+}
+
+// The code and a controller, whose open pair is one of five.
+fn of_controller(opened: u32) -> usize {
+    if 4 < opened {
+        return 0;
+    }
+    131
+}
+
+// The words of the call at this index, its code among them; 0 where it is not listed.
+fn size(bytes: &[u8], at: usize) -> usize {
+    let code = word(bytes, at, 0);
+    match code {
+        1 => 11,
+        2 | 6 => 3,
+        3 | 8 | 10 | 107 | 108 => of_trace(word(bytes, at, 1)),
+        4 | 11 => 7,
+        5 | 12 => 2,
+        7 => of_operation(word(bytes, at, 1)),
+        9 | 103 | 104 | 105 | 106 => 1,
+        101 => 36,
+        102 => of_controller(word(bytes, at, 12)),
+        _ => 0,
+    }
+}
+
+// The index behind the call at this index; not a larger one where the call is not listed or the script ends inside it.
+pub(crate) fn behind(bytes: &[u8], at: usize) -> usize {
+    let next = ahead(at, size(bytes, at));
+    if bytes.len() / 4 < next {
+        return 0;
+    }
+    next
+}
