@@ -18,7 +18,8 @@ use Rattle.writing.specs.Writing.{requestFits}
 use Rattle.command.specs.declared.operation.Request.{Request}
 use Rattle.rules.specs.History.{ClosedPair, pastFrom}
 use Rattle.controller.specs.States.{vacant}
-use Rattle.controller.specs.Steps.{held, callOutcome, stateFits, isOpen, joined, offerIf, offerBy, offerOf, closing, starting, tickIf, tickBy, tickOf}
+use Rattle.scheduler.specs.Pairs.{isOpen}
+use Rattle.controller.specs.Steps.{held, callOutcome, stateFits, joined, offerIf, offerBy, offerOf, closing, starting, tickIf, tickBy, tickOf}
 use Rattle.controller.specs.declared.Controller.{Controller}
 use Rattle.controller.specs.declared.CallAnswer.{CallAnswer}
 use Rattle.model.specs.Runs.{Call, offer, tick, Accepted, Run, prescribed, pairsOf, starts, accessOpen, latestStart}
