@@ -4,9 +4,15 @@ use mathlib.Core.Path.{_≡_}
 use mathlib.Core.Bool.{false, _&&_}
 use lib.Dec.{eqb}
 use borrow.Author.Needs.{needs}
+use Rattle.scheduler.specs.Pairs.{pairWords}
+use Rattle.controller.specs.Steps.{oldestRequest}
 use Rattle.controller.proofs.Waiting.{queue-fits}
 use Rattle.controller.proofs.ticking.closing.Statement.{statement}
 use Rattle.controller.proofs.ticking.closing.Tie as tie
+
+-- the words of the open pair
+words : (c : tie.After-pair-words) → let a = c .before .before .before .before .before .args in c .pair-words .result ≡ pairWords (a .timing) (a .controller .opened) (oldestRequest (a .controller))
+words c = c .pair-words .ensures
 
 -- at most sixteen wait, and one that leaves is one of them
 queue : (c : tie.After-of-oldest) → let s = c .before .before .before .before .before .before .args .controller in (s .count ≤ 16) × ((c .of-oldest .result && eqb (s .count) 0) ≡ false)
@@ -38,7 +44,7 @@ count-left-requires c κs = queue (c .before .before) .1
 returns : tie.Need-returns
 returns c =
     let o = c .before .before .before in
-    rw (c .count-left .ensures, c .before .requests-left .ensures, c .before .before .remembered .ensures, o .of-oldest .ensures, o .before .pair-words .ensures)
+    rw (c .count-left .ensures, c .before .requests-left .ensures, c .before .before .remembered .ensures, o .of-oldest .ensures, ← words (o .before))
 
 pub closing-spec : {M : Type 1} → statement M
 closing-spec =
