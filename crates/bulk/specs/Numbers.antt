@@ -1,7 +1,6 @@
 -- An answer as one number: 0 for accepted or end, the refusal's number, or a breach as 2^40 and its clock times 64 and its number.
 use Prim.Native.Nat.{ℕ, _+_, _*_}
 use Rattle.config.specs.Outcome.{Outcome, value, refused}
-use Rattle.config.specs.declared.Config.{Config}
 use Rattle.rules.specs.Verdict.{Judgement, accepted, breach}
 use Rattle.cursor.specs.Walk.{Reached, passed, breached, ended}
 
@@ -19,19 +18,3 @@ walkNumber (value passed) = 1
 walkNumber (value (breached clock n)) = breachNumber clock n
 walkNumber (value ended) = 0
 walkNumber (refused n) = n
-
--- the configuration that the numbers make, in the order of the paper
-abbrev pub configOf : ℕ → ℕ → ℕ → ℕ → ℕ → ℕ → ℕ → ℕ → ℕ → ℕ → Config
-configOf grade cl bl organisation period rbd rwd wrd rsc refc =
-    record {
-      grade = grade;
-      cl = cl;
-      bl = bl;
-      organisation = organisation;
-      period = record { 0 = period };
-      rbd = record { 0 = rbd };
-      rwd = record { 0 = rwd };
-      wrd = record { 0 = wrd };
-      rsc = record { 0 = rsc };
-      refc = record { 0 = refc };
-    }

@@ -3,9 +3,7 @@ mod counting;
 mod number;
 mod walk;
 
-use config::Clocks;
 use config::Config;
-use config::Picoseconds;
 use counting::counts_of;
 use counting::number_of;
 use counting::store;
@@ -17,38 +15,10 @@ use walk::walk;
 ghost use mathlib.Core.Path.{_≡_};
 ghost use Rattle.rules.specs.Verdict.{checkOf};
 ghost use Rattle.counts.specs.Counts.{countingOf};
-ghost use Rattle.bulk.specs.Numbers.{configOf, checkNumber, walkNumber};
+ghost use Rattle.config.specs.Configuration.{configOf};
+ghost use Rattle.bulk.specs.Numbers.{checkNumber, walkNumber};
 ghost use Rattle.bulk.specs.Walks.{walkOf, againOf};
 ghost use Rattle.bulk.specs.Stored.{stored};
-
-// The configuration that the ten numbers of a sheet make.
-fn config_of(
-    grade: u32,
-    cl: u32,
-    bl: u32,
-    organisation: u32,
-    period: u32,
-    rbd: u32,
-    rwd: u32,
-    wrd: u32,
-    rsc: u32,
-    refc: u32,
-) -> Config
-    ensures { λ r. ⌜ r ≡ configOf grade cl bl organisation period rbd rwd wrd rsc refc ⌝ }
-{
-    Config {
-        grade,
-        cl,
-        bl,
-        organisation,
-        period: Picoseconds(period),
-        rbd: Clocks(rbd),
-        rwd: Clocks(rwd),
-        wrd: Clocks(wrd),
-        rsc: Clocks(rsc),
-        refc: Clocks(refc),
-    }
-}
 
 // The whole check.
 #[no_mangle]
@@ -67,7 +37,7 @@ pub extern "C" fn bulk_check(
 ) -> u64
     ensures { λ r. ⌜ r ≡ checkNumber (checkOf (configOf grade cl bl organisation period rbd rwd wrd rsc refc) (now (words .entry))) ⌝ }
 {
-    let config = config_of(
+    let config = Config::from_numbers(
         grade,
         cl,
         bl,
@@ -99,7 +69,7 @@ pub extern "C" fn bulk_walk(
 ) -> u64
     ensures { λ r. ⌜ r ≡ walkNumber (walkOf (configOf grade cl bl organisation period rbd rwd wrd rsc refc) (now (words .entry)) .outcome) ⌝ }
 {
-    let config = config_of(
+    let config = Config::from_numbers(
         grade,
         cl,
         bl,
@@ -133,7 +103,7 @@ pub extern "C" fn bulk_walk_again(
 ) -> u64
     ensures { λ r. ⌜ r ≡ walkNumber (againOf (configOf grade cl bl organisation period rbd rwd wrd rsc refc) (now (words .entry))) ⌝ }
 {
-    let config = config_of(
+    let config = Config::from_numbers(
         grade,
         cl,
         bl,

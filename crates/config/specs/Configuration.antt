@@ -91,3 +91,19 @@ institute =
       rsc = record { 0 = 7 };
       refc = record { 0 = 18 };
     }
+
+-- the configuration that ten numbers make, in the order of RULES 1.1
+abbrev pub configOf : ℕ → ℕ → ℕ → ℕ → ℕ → ℕ → ℕ → ℕ → ℕ → ℕ → Config
+configOf grade cl bl organisation period rbd rwd wrd rsc refc =
+    record {
+      grade = grade;
+      cl = cl;
+      bl = bl;
+      organisation = organisation;
+      period = record { 0 = period };
+      rbd = record { 0 = rbd };
+      rwd = record { 0 = rwd };
+      wrd = record { 0 = wrd };
+      rsc = record { 0 = rsc };
+      refc = record { 0 = refc };
+    }

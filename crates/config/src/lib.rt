@@ -6,7 +6,7 @@ pub use refusal::Refusal;
 ghost use mathlib.Core.Path.{_≡_};
 ghost use mathlib.Core.Bool.{cond};
 ghost use Prim.Native.Nat.{_≤_, _<_, max};
-ghost use Rattle.config.specs.Configuration.{leastPeriod, partFits, periodFits, countsFit, derived, timingOf, institute};
+ghost use Rattle.config.specs.Configuration.{leastPeriod, partFits, periodFits, countsFit, derived, timingOf, institute, configOf};
 ghost use Rattle.config.specs.Numbers.{timingOutcome};
 
 // A time in whole picoseconds: a type of its own, so that it is never taken for a count of clocks.
@@ -98,6 +98,35 @@ impl Config {
             wrd: Clocks(1),
             rsc: Clocks(7),
             refc: Clocks(18),
+        }
+    }
+
+    // The configuration that ten numbers make.
+    pub fn from_numbers(
+        grade: u32,
+        cl: u32,
+        bl: u32,
+        organisation: u32,
+        period: u32,
+        rbd: u32,
+        rwd: u32,
+        wrd: u32,
+        rsc: u32,
+        refc: u32,
+    ) -> Config
+        ensures { λ r. ⌜ r ≡ configOf grade cl bl organisation period rbd rwd wrd rsc refc ⌝ }
+    {
+        Config {
+            grade,
+            cl,
+            bl,
+            organisation,
+            period: Picoseconds(period),
+            rbd: Clocks(rbd),
+            rwd: Clocks(rwd),
+            wrd: Clocks(wrd),
+            rsc: Clocks(rsc),
+            refc: Clocks(refc),
         }
     }
 

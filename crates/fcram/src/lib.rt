@@ -1,12 +1,11 @@
 // The exam site's call, for programs in C: include/fcram.h declares it.
-use config::Clocks;
 use config::Config;
-use config::Picoseconds;
 use protocol::Verdict;
 ghost use mathlib.Core.Path.{_≡_};
 ghost use Rattle.rules.specs.Verdict.{checkBytesOf};
 ghost use Rattle.protocol.specs.Steps.{verdictOutcome};
-ghost use Rattle.fcram.specs.Number.{numberOf, configOf};
+ghost use Rattle.config.specs.Configuration.{configOf};
+ghost use Rattle.fcram.specs.Number.{numberOf};
 ghost use Rattle.fcram.specs.Range.{Small};
 
 // A verdict as one number (RULES 10.1).
@@ -38,17 +37,17 @@ pub extern "C" fn fcram_check(
 ) -> u32
     ensures { λ r. ⌜ r ≡ numberOf (checkBytesOf (configOf grade cl bl organisation period rbd rwd wrd rsc refc) (now (trace .entry))) ⌝ }
 {
-    let config = Config {
+    let config = Config::from_numbers(
         grade,
         cl,
         bl,
         organisation,
-        period: Picoseconds(period),
-        rbd: Clocks(rbd),
-        rwd: Clocks(rwd),
-        wrd: Clocks(wrd),
-        rsc: Clocks(rsc),
-        refc: Clocks(refc),
-    };
+        period,
+        rbd,
+        rwd,
+        wrd,
+        rsc,
+        refc,
+    );
     number(bytecheck::check_bytes(config, trace))
 }

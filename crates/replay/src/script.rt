@@ -2,9 +2,7 @@
 use command::Request;
 ghost use mathlib.Core.Path.{_≡_};
 ghost use lib.ListN.{length};
-use config::Clocks;
 use config::Config;
-use config::Picoseconds;
 
 // The index that is a number of words further on; 0 past any script.
 pub(crate) fn ahead(at: usize, count: usize) -> usize {
@@ -22,18 +20,18 @@ pub(crate) fn word(bytes: &[u8], at: usize, count: usize) -> u32 {
 }
 
 pub(crate) fn config_at(bytes: &[u8], at: usize) -> Config {
-    Config {
-        grade: word(bytes, at, 0),
-        cl: word(bytes, at, 1),
-        bl: word(bytes, at, 2),
-        organisation: word(bytes, at, 3),
-        period: Picoseconds(word(bytes, at, 4)),
-        rbd: Clocks(word(bytes, at, 5)),
-        rwd: Clocks(word(bytes, at, 6)),
-        wrd: Clocks(word(bytes, at, 7)),
-        rsc: Clocks(word(bytes, at, 8)),
-        refc: Clocks(word(bytes, at, 9)),
-    }
+    Config::from_numbers(
+        word(bytes, at, 0),
+        word(bytes, at, 1),
+        word(bytes, at, 2),
+        word(bytes, at, 3),
+        word(bytes, at, 4),
+        word(bytes, at, 5),
+        word(bytes, at, 6),
+        word(bytes, at, 7),
+        word(bytes, at, 8),
+        word(bytes, at, 9),
+    )
 }
 
 pub(crate) fn request_at(bytes: &[u8], at: usize) -> Request {
