@@ -130,24 +130,15 @@ pub(crate) fn skimmed(timing: Timing, bytes: &[u8], from: Place) -> Place
         let word = words::word_at(bytes, clock as usize);
         let sound = (word / PD == 1) & (clock as u64 <= until);
         if !sound {
-            return Place {
-                clock,
-                first,
-                stamps,
-            };
+            break;
         }
-        let idle = high(first, CS);
-        if idle {
+        if high(first, CS) {
             first = next_first(first, word);
             clock = past_desl(bytes, first, clock + 1, until);
             continue;
         }
         if (clock as u64) < settled {
-            return Place {
-                clock,
-                first,
-                stamps,
-            };
+            break;
         }
         let bank = (first / BA0 % 8) as usize;
         let recent = Recent {
@@ -156,11 +147,7 @@ pub(crate) fn skimmed(timing: Timing, bytes: &[u8], from: Place) -> Place
             write: stamps.write,
         };
         if !clear(timing, recent, clock, first, word) {
-            return Place {
-                clock,
-                first,
-                stamps,
-            };
+            break;
         }
         // `stamps.after(clock, first, word)` in place: it would copy the eight bank timestamps at each pair.
         let rda = high(first, FN);

@@ -46,8 +46,14 @@ module _ (l : tie.At-loop Inv-loop μ-loop) where
   abbrev bytes : List ℕ
   bytes = now (l .before .before .before .before .before .before .before .args .bytes)
 
+  abbrev place₀ : Place
+  place₀ = l .before .before .before .before .before .before .before .args .from
+
   abbrev place : Place
   place = record { clock = l .loop .clock; first = l .loop .first; stamps = l .loop .stamps }
+
+  stops : (place₀ .clock ≤ place .clock) × (place .clock ≤ length bytes / 4) × Passed timing (wordsOf bytes) place₀ place
+  stops = (l .loop .inv .onward, l .loop .inv .within, l .loop .inv .passed)
 
 -- the word that it reads
 module _ (c : tie.After-word-at Inv-loop μ-loop) where
@@ -126,9 +132,6 @@ word-at-requires c κs = search needs
 cast-sound : tie.Need-cast-sound Inv-loop μ-loop
 cast-sound c = search needs
 
-returns : tie.Need-returns Inv-loop μ-loop
-returns c = let l = c .before .before .before .loop .inv in (l .onward, l .within, l .passed)
-
 high-requires : tie.Need-high-requires Inv-loop μ-loop
 high-requires c κs = search needs
 
@@ -159,9 +162,6 @@ loop-again c =
 cast-if3 : tie.Need-cast-if3 Inv-loop μ-loop
 cast-if3 c = search needs
 
-returns-2 : tie.Need-returns-2 Inv-loop μ-loop
-returns-2 c = let l = c .before .before .before .before .before .before .loop .inv in (l .onward, l .within, l .passed)
-
 cast-bank : tie.Need-cast-bank Inv-loop μ-loop
 cast-bank c = search needs
 
@@ -173,9 +173,6 @@ element-copy-out-stamps c = search needs
 
 clear-requires : tie.Need-clear-requires Inv-loop μ-loop
 clear-requires c κs = search needs
-
-returns-3 : tie.Need-returns-3 Inv-loop μ-loop
-returns-3 c = let l = c .before .before .before .before .before .before .before .before .before .loop .inv in (l .onward, l .within, l .passed)
 
 high-requires-2 : tie.Need-high-requires-2 Inv-loop μ-loop
 high-requires-2 c κs = search needs
@@ -214,8 +211,17 @@ loop-again-2 c =
           record { ready = s .ready; afterMode = s .afterMode; afterRefresh = s .afterRefresh };
     }
 
+returns : tie.Need-returns Inv-loop μ-loop
+returns c = stops (c .before)
+
+returns-2 : tie.Need-returns-2 Inv-loop μ-loop
+returns-2 c = stops (from (c .before))
+
+returns-3 : tie.Need-returns-3 Inv-loop μ-loop
+returns-3 c = stops (from (c .before .before .before .before))
+
 returns-4 : tie.Need-returns-4 Inv-loop μ-loop
-returns-4 c = let l = c .before .loop .inv in (l .onward, l .within, l .passed)
+returns-4 c = stops (from (c .before .before .before .before .before .before .before))
 
 pub skimmed-spec : {M : Type 1} → statement M
 skimmed-spec =
@@ -232,7 +238,6 @@ skimmed-spec =
     cast-word-at
     word-at-requires
     cast-sound
-    returns
     high-requires
     next-first-requires
     add-past-desl
@@ -240,12 +245,10 @@ skimmed-spec =
     loop-less
     loop-again
     cast-if3
-    returns-2
     cast-bank
     mul-stamps
     element-copy-out-stamps
     clear-requires
-    returns-3
     high-requires-2
     mul-stamps-2
     element-write-stamps
@@ -254,4 +257,7 @@ skimmed-spec =
     add-clock
     loop-less-2
     loop-again-2
+    returns
+    returns-2
+    returns-3
     returns-4)
