@@ -83,6 +83,10 @@ pub passed-on : {t : Timing} {ws : List ℕ} {p q r : Place} → Passed t ws p q
 passed-on before none = before
 passed-on before (more on h) = more (passed-on before on) h
 
+pub passed-onward : {t : Timing} {ws : List ℕ} {p q : Place} → Passed t ws p q → p .clock ≤ q .clock
+passed-onward none = omega arith
+passed-onward (more before h) = rw (h .leads) (omega (arith, passed-onward before))
+
 -- the judgement from a place on
 abbrev pub runFrom : Timing → List ℕ → Place → Judgement
 runFrom t ws p = run t (p .stamps) (p .clock) (p .first) (drop (p .clock) ws)

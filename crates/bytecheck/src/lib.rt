@@ -30,7 +30,7 @@ fn judged_bytes(timing: Timing, bytes: &[u8]) -> Verdict
         place = skimmed(timing, bytes, place);
         let clock = place.clock;
         if bytes.len() / 4 <= clock as usize {
-            return Verdict::Accepted;
+            break;
         }
         let word = words::word_at(bytes, clock as usize);
         let number = word_breach(timing, place.stamps, clock, place.first, word);

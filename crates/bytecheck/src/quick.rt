@@ -97,8 +97,8 @@ fn clear(timing: Timing, recent: Recent, clock: u32, first: u32, word: u32) -> b
 
 // Passes over the DESL words from a clock on that stand no later than `until`, where no pair is open.
 fn past_desl(bytes: &[u8], first: u32, clock: u32, until: u64) -> u32
-    requires { ⌜ (clock ≤ length (now bytes) / 4) × (length (now bytes) / 4 ≤ 16777216) ⌝ }
-    ensures { λ r. ⌜ (clock ≤ r) × (r ≤ length (now (bytes .entry)) / 4) × DeslPassed first until (wordsOf (now (bytes .entry))) clock r ⌝ }
+    requires { ⌜ length (now bytes) / 4 ≤ 16777216 ⌝ }
+    ensures { λ r. ⌜ (clock ≤ r) × DeslPassed first until (wordsOf (now (bytes .entry))) clock r ⌝ }
 {
     if first != DESL {
         return clock;
@@ -117,8 +117,8 @@ fn past_desl(bytes: &[u8], first: u32, clock: u32, until: u64) -> u32
 
 // Goes on from a place as long as words surely breach nothing.
 pub(crate) fn skimmed(timing: Timing, bytes: &[u8], from: Place) -> Place
-    requires { ⌜ (from .clock ≤ length (now bytes) / 4) × (length (now bytes) / 4 ≤ 16777216) ⌝ }
-    ensures { λ r. ⌜ (from .clock ≤ r .clock) × (r .clock ≤ length (now (bytes .entry)) / 4) × Passed timing (wordsOf (now (bytes .entry))) from r ⌝ }
+    requires { ⌜ length (now bytes) / 4 ≤ 16777216 ⌝ }
+    ensures { λ r. ⌜ Passed timing (wordsOf (now (bytes .entry))) from r ⌝ }
 {
     let mut stamps = from.stamps;
     let mut first = from.first;

@@ -10,17 +10,16 @@ use Rattle.config.specs.Outcome.{value}
 use Rattle.config.specs.declared.Timing.{Timing}
 use Rattle.words.specs.Words.{wordsOf}
 use Rattle.words.proofs.Listed.{words-length, word-listed}
-use Rattle.rules.specs.Verdict.{judge}
+use Rattle.rules.specs.Verdict.{accepted, judge}
 use Rattle.rules.proofs.Words.{run-is, run-breaches, run-ends}
 use Rattle.bytecheck.specs.Passed.{Passes}
 use Rattle.bytecheck.specs.declared.place.Place.{Place}
-use Rattle.bytecheck.proofs.Passing.{runFrom, passes-run, passed-run}
+use Rattle.bytecheck.proofs.Passing.{passed-onward, runFrom, passes-run, passed-run}
 use Rattle.bytecheck.proofs.judged_bytes.Statement.{statement}
 use Rattle.bytecheck.proofs.judged_bytes.Tie as tie
 
 abbrev Inv-loop : tie.InvT-loop
-Inv-loop timing bytes place₀ place =
-    (place .clock ≤ length bytes / 4) × (judge timing (wordsOf bytes) ≡ runFrom timing (wordsOf bytes) place)
+Inv-loop timing bytes place₀ place = judge timing (wordsOf bytes) ≡ runFrom timing (wordsOf bytes) place
 
 abbrev μ-loop : tie.MeasureT-loop
 μ-loop timing bytes place₀ place = length bytes / 4 - place .clock
@@ -37,7 +36,7 @@ module _ (c : tie.After-skimmed Inv-loop μ-loop) where
   place = c .skimmed .result
 
   reached : judge timing (wordsOf bytes) ≡ runFrom timing (wordsOf bytes) place
-  reached = c .before .before .before .loop .inv .1 ∙ passed-run timing (wordsOf bytes) (c .skimmed .ensures .2)
+  reached = c .before .before .before .loop .inv ∙ passed-run timing (wordsOf bytes) (c .skimmed .ensures)
 
 -- the word there
 module _ (c : tie.After-word-at Inv-loop μ-loop) where
@@ -61,13 +60,17 @@ passes c =
       leads = rw (← word w) (c .after .ensures);
     }
 
+ends : (t : Timing) (bytes : List ℕ) (p : Place) → judge t (wordsOf bytes) ≡ runFrom t (wordsOf bytes) p → length bytes / 4 ≤ p .clock
+    → value accepted ≡ value (judge t (wordsOf bytes))
+ends t bytes p e h = ap value (sym (e ∙ run-ends t (p .stamps) (p .first) (wordsOf bytes) (p .clock) (rw (words-length bytes) h)))
+
 start-requires : tie.Need-start-requires Inv-loop μ-loop
 start-requires c κs = search needs
 
 loop-holds : tie.Need-loop-holds Inv-loop μ-loop
 loop-holds c =
     let a = c .before .before .args in
-    rw (c .start .ensures) (omega arith, run-is (a .timing) (wordsOf (now (a .bytes))))
+    rw (c .start .ensures) (run-is (a .timing) (wordsOf (now (a .bytes))))
 
 cast-if1 : tie.Need-cast-if1 Inv-loop μ-loop
 cast-if1 c = search needs
@@ -78,12 +81,6 @@ skimmed-requires c κs = search needs
 cast-if2 : tie.Need-cast-if2 Inv-loop μ-loop
 cast-if2 c = search needs
 
-returns : tie.Need-returns Inv-loop μ-loop
-returns c =
-    let p = c .before in
-    let ended = run-ends (timing p) (place p .stamps) (place p .first) (wordsOf (bytes p)) (place p .clock) (rw (words-length (bytes p)) (c .if2 .taken)) in
-    ap value (sym (reached p ∙ ended))
-
 cast-word-at : tie.Need-cast-word-at Inv-loop μ-loop
 cast-word-at c = search needs
 
@@ -93,8 +90,8 @@ word-at-requires c κs = search needs
 word-breach-requires : tie.Need-word-breach-requires Inv-loop μ-loop
 word-breach-requires c κs = search needs
 
-returns-2 : tie.Need-returns-2 Inv-loop μ-loop
-returns-2 c =
+returns : tie.Need-returns Inv-loop μ-loop
+returns c =
     let tested = c .before in
     let w = tested .before in
     let p = at w in
@@ -107,21 +104,21 @@ after-requires : tie.Need-after-requires Inv-loop μ-loop
 after-requires c κs = search needs
 
 loop-less : tie.Need-loop-less Inv-loop μ-loop
-loop-less c = rw (c .after .ensures) (omega arith)
+loop-less c = rw (c .after .ensures) (omega (arith, passed-onward (at (c .before .before .before) .skimmed .ensures)))
 
 loop-again : tie.Need-loop-again Inv-loop μ-loop
 loop-again c =
     let p = at (c .before .before .before) in
-    (rw (c .after .ensures) (omega arith), reached p ∙ passes-run (timing p) (wordsOf (bytes p)) (passes c))
+    reached p ∙ passes-run (timing p) (wordsOf (bytes p)) (passes c)
 
-returns-3 : tie.Need-returns-3 Inv-loop μ-loop
-returns-3 c =
+returns-2 : tie.Need-returns-2 Inv-loop μ-loop
+returns-2 c =
     let l = c .before .before in
     let a = l .before .before .before .args in
-    let p = l .loop .place in
-    let ended =
-    run-ends (a .timing) (p .stamps) (p .first) (wordsOf (now (a .bytes))) (p .clock) (rw (words-length (now (a .bytes))) (c .if1 .left)) in
-    ap value (sym (l .loop .inv .1 ∙ ended))
+    ends (a .timing) (now (a .bytes)) (l .loop .place) (l .loop .inv) (c .if1 .left)
+
+returns-3 : tie.Need-returns-3 Inv-loop μ-loop
+returns-3 c = let p = c .before in ends (timing p) (bytes p) (place p) (reached p) (c .if2 .taken)
 
 pub judged-bytes-spec : {M : Type 1} → statement M
 judged-bytes-spec =
@@ -134,12 +131,12 @@ judged-bytes-spec =
     cast-if1
     skimmed-requires
     cast-if2
-    returns
     cast-word-at
     word-at-requires
     word-breach-requires
-    returns-2
+    returns
     after-requires
     loop-less
     loop-again
+    returns-2
     returns-3)

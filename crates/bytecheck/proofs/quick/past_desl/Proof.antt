@@ -1,5 +1,5 @@
 -- Each turn passes one DESL word. Assumes nothing.
-use Prim.Native.Nat.{_-_, _/_, _^_, _≤_}
+use Prim.Native.Nat.{_-_, _/_, _^_, _≤_, _<_}
 use native.Mathlib.Omega.{arith}
 use borrow.Author.Needs.{needs}
 use borrow.Author.Tests.{not-false, eqb-true, leb-true}
@@ -17,13 +17,13 @@ use Rattle.bytecheck.proofs.quick.past_desl.Statement.{statement}
 use Rattle.bytecheck.proofs.quick.past_desl.Tie as tie
 
 abbrev Inv-loop : tie.InvT-loop
-Inv-loop bytes first clock until at₀ at = (clock ≤ at) × (at ≤ length bytes / 4) × DeslPassed first until (wordsOf bytes) clock at
+Inv-loop bytes first clock until at₀ at = (at < 2 ^ 32) × (clock ≤ at) × DeslPassed first until (wordsOf bytes) clock at
 
 abbrev μ-loop : tie.MeasureT-loop
 μ-loop bytes first clock until at₀ at = length bytes / 4 - at
 
 returns : tie.Need-returns Inv-loop μ-loop
-returns c = (search needs, search needs, λ t s due. none)
+returns c = (search needs, λ t s due. none)
 
 loop-holds : tie.Need-loop-holds Inv-loop μ-loop
 loop-holds c = (search needs, search needs, λ t s due. none)
@@ -41,7 +41,7 @@ cast-passed : tie.Need-cast-passed Inv-loop μ-loop
 cast-passed c = search needs
 
 returns-2 : tie.Need-returns-2 Inv-loop μ-loop
-returns-2 c = c .before .before .before .loop .inv
+returns-2 c = let inv = c .before .before .before .loop .inv in (inv .1, inv .2)
 
 add-at : tie.Need-add-at Inv-loop μ-loop
 add-at c = omega arith
@@ -69,7 +69,7 @@ loop-again c =
     )
 
 returns-3 : tie.Need-returns-3 Inv-loop μ-loop
-returns-3 c = c .before .loop .inv
+returns-3 c = let inv = c .before .loop .inv in (inv .1, inv .2)
 
 pub past-desl-spec : {M : Type 1} → statement M
 past-desl-spec =

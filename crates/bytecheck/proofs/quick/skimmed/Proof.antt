@@ -1,6 +1,6 @@
 -- Each turn passes a word, and where no pair is open the DESL words after it. The timestamps that the two deadlines go by stay as they
 -- are. Assumes nothing.
-use Prim.Native.Nat.{ℕ, _+_, _-_, _/_, _≤_, _<_}
+use Prim.Native.Nat.{ℕ, _+_, _-_, _/_, _^_, _≤_, _<_}
 use mathlib.Core.Path.{_≡_, sym, _∙_}
 use mathlib.Core.Bool.{true, false}
 use mathlib.Core.List.{List}
@@ -25,8 +25,7 @@ use Rattle.bytecheck.proofs.quick.skimmed.Tie as tie
 
 -- the loop has gone from one place to another, and its deadlines hold
 record Skimming (t : Timing) (bytes : List ℕ) (from at : Place) (until settled : ℕ) : Type 0 where
-  onward : from .clock ≤ at .clock
-  within : at .clock ≤ length bytes / 4
+  fits : at .clock < 2 ^ 32
   passed : Passed t (wordsOf bytes) from at
   due : (k : ℕ) → k ≤ until → overdue (t .refi) (getD (at .stamps .refs) 0 0) k ≡ false
   calm : SettledFrom t (at .stamps) settled
@@ -46,14 +45,8 @@ module _ (l : tie.At-loop Inv-loop μ-loop) where
   abbrev bytes : List ℕ
   bytes = now (l .before .before .before .before .before .before .before .args .bytes)
 
-  abbrev place₀ : Place
-  place₀ = l .before .before .before .before .before .before .before .args .from
-
   abbrev place : Place
   place = record { clock = l .loop .clock; first = l .loop .first; stamps = l .loop .stamps }
-
-  stops : (place₀ .clock ≤ place .clock) × (place .clock ≤ length bytes / 4) × Passed timing (wordsOf bytes) place₀ place
-  stops = (l .loop .inv .onward, l .loop .inv .within, l .loop .inv .passed)
 
 -- the word that it reads
 module _ (c : tie.After-word-at Inv-loop μ-loop) where
@@ -113,8 +106,7 @@ settled-from-requires c κs = search needs
 loop-holds : tie.Need-loop-holds Inv-loop μ-loop
 loop-holds c =
     record {
-      onward = search needs;
-      within = search needs;
+      fits = search needs;
       passed = none;
       due = rw (c .before .before .before .refi .ensures) at (c .before .due .ensures);
       calm = c .settled-from .ensures;
@@ -152,9 +144,8 @@ loop-again c =
     let l = from (c .before .before .before .before .before) in
     let inv = l .loop .inv in
     record {
-      onward = omega arith;
-      within = c .past-desl .ensures .1;
-      passed = passed-on (more (inv .passed) (idle (c .before))) (c .past-desl .ensures .2 (timing l) (place l .stamps) (inv .due));
+      fits = search needs;
+      passed = passed-on (more (inv .passed) (idle (c .before))) (c .past-desl .ensures .1 (timing l) (place l .stamps) (inv .due));
       due = inv .due;
       calm = inv .calm;
     }
@@ -201,8 +192,7 @@ loop-again-2 c =
     let l = from (opened .before .before .before .before .before .before .before) in
     let inv = l .loop .inv in
     record {
-      onward = omega arith;
-      within = omega arith;
+      fits = omega arith;
       passed = rw (c .before .choose .ensures, c .choose2 .ensures, c .before .before .high2 .ensures) (more (inv .passed) (access opened));
       due = inv .due;
       calm =
@@ -212,16 +202,16 @@ loop-again-2 c =
     }
 
 returns : tie.Need-returns Inv-loop μ-loop
-returns c = stops (c .before)
+returns c = (c .before) .loop .inv .passed
 
 returns-2 : tie.Need-returns-2 Inv-loop μ-loop
-returns-2 c = stops (from (c .before))
+returns-2 c = (from (c .before)) .loop .inv .passed
 
 returns-3 : tie.Need-returns-3 Inv-loop μ-loop
-returns-3 c = stops (from (c .before .before .before .before))
+returns-3 c = (from (c .before .before .before .before)) .loop .inv .passed
 
 returns-4 : tie.Need-returns-4 Inv-loop μ-loop
-returns-4 c = stops (from (c .before .before .before .before .before .before .before))
+returns-4 c = (from (c .before .before .before .before .before .before .before)) .loop .inv .passed
 
 pub skimmed-spec : {M : Type 1} → statement M
 skimmed-spec =
