@@ -1,7 +1,7 @@
 -- Words that breach nothing: one while no pair is open, a DESL word of a run, the LAL word of a read or write; and a run over what is
 -- kept goes on past any number of them. Assumes nothing.
 use Prim.Native.Nat.{ℕ, _+_, _/_, _^_, _≤_, _<_}
-use mathlib.Core.Path.{_≡_, refl, sym, _∙_, ap, ap₂}
+use mathlib.Core.Path.{_≡_, refl, sym, _∙_, ap}
 use mathlib.Core.Bool.{true, false, not, _&&_, and-false}
 use mathlib.Core.List.{List}
 use native.Mathlib.Omega.{arith}
@@ -13,7 +13,7 @@ use Rattle.config.specs.declared.Timing.{Timing}
 use Rattle.command.specs.Pins.{high}
 use Rattle.command.specs.Pairs.{rda}
 use Rattle.rules.specs.Rules.{bankOf}
-use Rattle.rules.specs.Stamps.{near, overdue, bankStamp, earlyBreach, closingBreach, wordBreach, withAccess, nextFirst}
+use Rattle.rules.specs.Stamps.{near, overdue, bankStamp, earlyBreach, closingBreach, withAccess, nextFirst}
 use Rattle.rules.specs.Verdict.{Judgement}
 use Rattle.rules.specs.declared.stamps.Timestamps.{Timestamps}
 use Rattle.rules.proofs.ByKind.{at-lal}
@@ -22,6 +22,7 @@ use Rattle.rules.proofs.Words.{run, run-passes}
 use Rattle.bytecheck.specs.Passed.{Passes, Passed, none, more}
 use Rattle.bytecheck.specs.Quick.{Settled, Clear}
 use Rattle.bytecheck.specs.declared.place.Place.{Place}
+use Rattle.bytecheck.specs.declared.quick.Recent.{Recent}
 
 -- an event that is far enough back is not near
 pub far : (k c n : ℕ) → c + n ≤ k → near k c n ≡ false
@@ -38,9 +39,13 @@ early-by refi last k w until e due =
     let h = both (eqb (w / 2 ^ 19) 1) (leb k until) e in
     early-kept refi last k w (eqb-true (w / 2 ^ 19) 1 (h .0)) (due k (leb-true k until (h .1)))
 
+-- what rules 7 and 8 compare the pair of this first word with
+abbrev recentOf : Timestamps → ℕ → Recent
+recentOf s first = record { bank = bankStamp s first; read = s .read; write = s .write }
+
 -- a LAL word that keeps rules 5, 7 and 8, where rules 6, 9 and 10 are kept
-lal-kept : (t : Timing) (s : Timestamps) (k first w : ℕ) → Settled t s k
-    → Clear t (record { bank = bankStamp s first; read = s .read; write = s .write }) k first w → closingBreach t s k first w ≡ 0
+lal-kept : (t : Timing) (s : Timestamps) (k first w : ℕ) → Settled t s k → Clear t (recentOf s first) k first w
+    → closingBreach t s k first w ≡ 0
 lal-kept t s k first w settled clear =
     sym
     (at-lal t s k first w (clear .isLal) (sym (clear .unreserved)) (sym (settled .ready))
@@ -49,6 +54,16 @@ lal-kept t s k first w settled clear =
     (rw (← no-more (t .rsc)) at (sym (settled .afterMode)))
     (rw (← no-more (t .refc)) at (sym (settled .afterRefresh))))
 
+-- the place after the LAL word of a read or write
+abbrev pub accessed : Place → Place
+accessed p =
+    record {
+      clock = p .clock + 1;
+      first = 0xC0000;
+      stamps = withAccess (p .stamps) (p .clock) (rda (p .first)) (bankOf (p .first));
+    }
+
+-- the word at a place, where it keeps rules 1 to 3
 module _ (t : Timing) (ws : List ℕ) (p : Place) {w : ℕ} (inside : p .clock < length ws) (word : w ≡ getD ws (p .clock) 0)
     (early : earlyBreach (t .refi) (getD (p .stamps .refs) 0 0) (p .clock) w ≡ 0) where
   pub idle-passes : high 18 (p .first) ≡ true → {first₁ : ℕ} → first₁ ≡ nextFirst (p .first) w
@@ -61,8 +76,7 @@ module _ (t : Timing) (ws : List ℕ) (p : Place) {w : ℕ} (inside : p .clock <
       }
 
   pub access-passes : high 18 (p .first) ≡ false → Settled t (p .stamps) (p .clock)
-      → Clear t (record { bank = bankStamp (p .stamps) (p .first); read = p .stamps .read; write = p .stamps .write }) (p .clock) (p .first) w
-      → Passes t ws p (record { clock = p .clock + 1; first = 0xC0000; stamps = withAccess (p .stamps) (p .clock) (rda (p .first)) (bankOf (p .first)) })
+      → Clear t (recentOf (p .stamps) (p .first)) (p .clock) (p .first) w → Passes t ws p (accessed p)
   access-passes opened settled clear =
       record {
         inside = inside;
@@ -70,6 +84,7 @@ module _ (t : Timing) (ws : List ℕ) (p : Place) {w : ℕ} (inside : p .clock <
         leads = rw (← word, opened, clear .isLal);
       }
 
+-- a DESL word that rule 3 allows
 pub desl-passes : (t : Timing) (s : Timestamps) (ws : List ℕ) (k first : ℕ) → first ≡ 0xC0000 → k < length ws
     → overdue (t .refi) (getD (s .refs) 0 0) k ≡ false → getD ws k 0 / 2 ^ 18 ≡ 3
     → Passes t ws (record { clock = k; first = first; stamps = s }) (record { clock = k + 1; first = first; stamps = s })

@@ -49,6 +49,7 @@ module _ (c : tie.After-word-at Inv-loop μ-loop) where
   word : c .word-at .result ≡ getD (wordsOf (bytes at)) (place at .clock) 0
   word = c .word-at .ensures ∙ word-listed (bytes at) (place at .clock) (c .before .if2 .left)
 
+-- where it breaches nothing
 passes : (c : tie.After-after Inv-loop μ-loop) → let p = at (c .before .before .before) in
     Passes (timing p) (wordsOf (bytes p)) (place p) (c .after .result)
 passes c =
@@ -60,8 +61,9 @@ passes c =
       leads = rw (← word w) (c .after .ensures);
     }
 
-ends : (t : Timing) (bytes : List ℕ) (p : Place) → judge t (wordsOf bytes) ≡ runFrom t (wordsOf bytes) p → length bytes / 4 ≤ p .clock
-    → value accepted ≡ value (judge t (wordsOf bytes))
+-- at the end of the words
+ends : (t : Timing) (bytes : List ℕ) (p : Place) → judge t (wordsOf bytes) ≡ runFrom t (wordsOf bytes) p
+    → length bytes / 4 ≤ p .clock → value accepted ≡ value (judge t (wordsOf bytes))
 ends t bytes p e h = ap value (sym (e ∙ run-ends t (p .stamps) (p .first) (wordsOf bytes) (p .clock) (rw (words-length bytes) h)))
 
 start-requires : tie.Need-start-requires Inv-loop μ-loop

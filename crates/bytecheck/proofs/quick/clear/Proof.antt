@@ -90,13 +90,13 @@ returns-6 c e =
       unreserved = sym (reserved .ensures) ∙ not-true (reserved .result) e;
       rested =
           far (a .clock) (a .recent .bank) (a .timing .rc)
-          (rw (← same-bank .before .before .rc .ensures, ← same-bank .before .plus .ensures) (same-bank .if2 .left));
+          (omega (arith, same-bank .before .before .rc .ensures, same-bank .before .plus .ensures, same-bank .if2 .left));
       spaced =
           far-apart (rda (a .first)) (a .timing) (a .recent .read) (a .recent .write) (a .clock)
-          (rw (← rbd .rbd .ensures, ← after-read .before .plus2 .ensures) (after-read .if3 .left))
-          (rw (← rbd .rbd .ensures, ← after-write .before .plus3 .ensures) (after-write .if4 .left))
-          (rw (← opening .high .ensures, ← wrd .wrd .ensures, ← turn .before .rwd .ensures)
-          (rw (← other .choose .ensures, ← turn .choose2 .ensures, ← turned .before .plus4 .ensures) (turned .if5 .left)));
+          (omega (arith, rbd .rbd .ensures, after-read .before .plus2 .ensures, after-read .if3 .left))
+          (omega (arith, rbd .rbd .ensures, after-write .before .plus3 .ensures, after-write .if4 .left))
+          (rw (← opening .high .ensures, ← wrd .wrd .ensures, ← turn .before .rwd .ensures, ← other .choose .ensures, ← turn .choose2 .ensures)
+          (omega (arith, turned .before .plus4 .ensures, turned .if5 .left)));
     }
 
 pub clear-spec : {M : Type 1} → statement M

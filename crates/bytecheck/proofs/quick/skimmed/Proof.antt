@@ -2,37 +2,36 @@
 -- are. Assumes nothing.
 use Prim.Native.Nat.{ℕ, _+_, _-_, _/_, _^_, _≤_, _<_}
 use mathlib.Core.Path.{_≡_, sym, _∙_}
-use mathlib.Core.Bool.{true, false}
+use mathlib.Core.Bool.{false}
 use mathlib.Core.List.{List}
 use native.Mathlib.Omega.{arith}
 use borrow.Author.Needs.{needs}
-use borrow.Author.Tests.{not-true, not-false}
+use borrow.Author.Tests.{not-false}
 use lib.ListN.{length, getD}
 use denote.Ref.{now}
 use Rattle.config.specs.declared.Timing.{Timing}
 use Rattle.words.specs.Words.{wordsOf}
 use Rattle.words.proofs.Listed.{words-length, word-listed}
-use Rattle.command.specs.Pairs.{rda}
-use Rattle.rules.specs.Rules.{bankOf}
-use Rattle.rules.specs.Stamps.{overdue, earlyBreach, withAccess}
-use Rattle.rules.specs.declared.stamps.Timestamps.{Timestamps}
+use Rattle.rules.specs.Stamps.{overdue, earlyBreach}
 use Rattle.bytecheck.specs.Passed.{Passes, Passed, none, more}
 use Rattle.bytecheck.specs.Quick.{Settled, SettledFrom}
 use Rattle.bytecheck.specs.declared.place.Place.{Place}
-use Rattle.bytecheck.proofs.Passing.{early-by, idle-passes, access-passes, passed-on}
+use Rattle.bytecheck.proofs.Passing.{early-by, accessed, idle-passes, access-passes, passed-on}
 use Rattle.bytecheck.proofs.quick.skimmed.Statement.{statement}
 use Rattle.bytecheck.proofs.quick.skimmed.Tie as tie
 
--- the loop has gone from one place to another, and its deadlines hold
+-- what holds at each turn
 record Skimming (t : Timing) (bytes : List ℕ) (from at : Place) (until settled : ℕ) : Type 0 where
   fits : at .clock < 2 ^ 32
   passed : Passed t (wordsOf bytes) from at
+  -- the two deadlines are right for the timestamps reached
   due : (k : ℕ) → k ≤ until → overdue (t .refi) (getD (at .stamps .refs) 0 0) k ≡ false
   calm : SettledFrom t (at .stamps) settled
 
 abbrev Inv-loop : tie.InvT-loop
 Inv-loop timing bytes stamps₀ first₀ clock₀ until settled stamps first clock =
-    Skimming timing bytes (record { clock = clock₀; first = first₀; stamps = stamps₀ }) (record { clock = clock; first = first; stamps = stamps }) until settled
+    Skimming timing bytes (record { clock = clock₀; first = first₀; stamps = stamps₀ })
+    (record { clock = clock; first = first; stamps = stamps }) until settled
 
 abbrev μ-loop : tie.MeasureT-loop
 μ-loop timing bytes stamps₀ first₀ clock₀ until settled stamps first clock = length bytes / 4 - clock
@@ -64,15 +63,18 @@ early : (c : tie.Else1 Inv-loop μ-loop) → let p = place (from (c .before)) in
     earlyBreach (timing (from (c .before)) .refi) (getD (p .stamps .refs) 0 0) (p .clock) (c .before .word-at .result) ≡ 0
 early c =
     let l = from (c .before) in
-    early-by (timing l .refi) (getD (place l .stamps .refs) 0 0) (place l .clock) (c .before .word-at .result) (l .before .before .due .result)
+    let p = place l in
+    early-by (timing l .refi) (getD (p .stamps .refs) 0 0) (p .clock) (c .before .word-at .result) (l .before .before .due .result)
     (not-false _ (c .if1 .left)) (l .loop .inv .due)
 
-calm : (c : tie.Else3 Inv-loop μ-loop) → let l = from (c .before .before .before .before) in Settled (timing l) (place l .stamps) (place l .clock)
+calm : (c : tie.Else3 Inv-loop μ-loop) → let l = from (c .before .before .before .before) in
+    Settled (timing l) (place l .stamps) (place l .clock)
 calm c = let l = from (c .before .before .before .before) in l .loop .inv .calm (place l .clock) (omega arith) (c .if3 .left)
 
 -- it passes where no pair is open, and where it is the LAL word of a clear read or write
 idle : (c : tie.After-next-first Inv-loop μ-loop) → let l = from (c .before .before .before .before) in
-    Passes (timing l) (wordsOf (bytes l)) (place l) (record { clock = place l .clock + 1; first = c .next-first .result; stamps = place l .stamps })
+    Passes (timing l) (wordsOf (bytes l)) (place l)
+    (record { clock = place l .clock + 1; first = c .next-first .result; stamps = place l .stamps })
 idle c =
     let high = c .before .before in
     let w = high .before .before in
@@ -80,9 +82,8 @@ idle c =
     idle-passes (timing l) (wordsOf (bytes l)) (place l) (inside w) (word w) (early (high .before))
     (sym (high .high .ensures) ∙ c .before .if2 .taken) (c .next-first .ensures)
 
-access : (c : tie.Else4 Inv-loop μ-loop) → let l = from (c .before .before .before .before .before .before .before) in let p = place l in
-    Passes (timing l) (wordsOf (bytes l)) p
-    (record { clock = p .clock + 1; first = 0xC0000; stamps = withAccess (p .stamps) (p .clock) (rda (p .first)) (bankOf (p .first)) })
+access : (c : tie.Else4 Inv-loop μ-loop) → let l = from (c .before .before .before .before .before .before .before) in
+    Passes (timing l) (wordsOf (bytes l)) (place l) (accessed (place l))
 access c =
     let settled = c .before .before .before in
     let high = settled .before .before in
