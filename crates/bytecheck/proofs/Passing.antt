@@ -2,18 +2,18 @@
 -- kept goes on past any number of them. Assumes nothing.
 use Prim.Native.Nat.{ℕ, _+_, _/_, _^_, _≤_, _<_}
 use mathlib.Core.Path.{_≡_, refl, sym, _∙_, ap}
-use mathlib.Core.Bool.{true, false, not, _&&_, and-false}
+use mathlib.Core.Bool.{true, false, not, cond, _&&_, and-false}
 use mathlib.Core.List.{List}
 use native.Mathlib.Omega.{arith}
 use borrow.Author.Tests.{le-ltb, lt-leb, eqb-true, leb-true}
-use lib.ListN.{length, getD, drop}
+use lib.ListN.{length, getD, set, drop}
 use lib.Dec.{eqb, leb}
 use Rattle.config.proofs.Bounds.{both}
 use Rattle.config.specs.declared.Timing.{Timing}
 use Rattle.command.specs.Pins.{high}
 use Rattle.command.specs.Pairs.{rda}
 use Rattle.rules.specs.Rules.{bankOf}
-use Rattle.rules.specs.Stamps.{near, overdue, bankStamp, earlyBreach, closingBreach, withAccess, nextFirst}
+use Rattle.rules.specs.Stamps.{near, overdue, bankStamp, earlyBreach, closingBreach, nextFirst}
 use Rattle.rules.specs.Verdict.{Judgement}
 use Rattle.rules.specs.declared.stamps.Timestamps.{Timestamps}
 use Rattle.rules.proofs.ByKind.{at-lal}
@@ -54,13 +54,23 @@ lal-kept t s k first w settled clear =
     (rw (← no-more (t .rsc)) at (sym (settled .afterMode)))
     (rw (← no-more (t .refc)) at (sym (settled .afterRefresh))))
 
--- the place after the LAL word of a read or write
-abbrev pub accessed : Place → Place
-accessed p =
+-- the place after the LAL word of a read or write, with these last ones
+abbrev pub accessed : Place → ℕ → ℕ → Place
+accessed p read write =
+    let s = p .stamps in
     record {
       clock = p .clock + 1;
       first = 0xC0000;
-      stamps = withAccess (p .stamps) (p .clock) (rda (p .first)) (bankOf (p .first));
+      stamps =
+          record {
+            extended = s .extended;
+            regular = s .regular;
+            mode = s .mode;
+            read = read;
+            write = write;
+            banks = set (s .banks) (bankOf (p .first)) (p .clock);
+            refs = s .refs;
+          };
     }
 
 -- the word at a place, where it keeps rules 1 to 3
@@ -76,12 +86,14 @@ module _ (t : Timing) (ws : List ℕ) (p : Place) {w : ℕ} (inside : p .clock <
       }
 
   pub access-passes : high 18 (p .first) ≡ false → Settled t (p .stamps) (p .clock)
-      → Clear t (recentOf (p .stamps) (p .first)) (p .clock) (p .first) w → Passes t ws p (accessed p)
-  access-passes opened settled clear =
+      → Clear t (recentOf (p .stamps) (p .first)) (p .clock) (p .first) w
+      → {read write : ℕ} → read ≡ cond (rda (p .first)) (p .clock) (p .stamps .read)
+      → write ≡ cond (rda (p .first)) (p .stamps .write) (p .clock) → Passes t ws p (accessed p read write)
+  access-passes opened settled clear read write =
       record {
         inside = inside;
         sound = rw (← word, early, opened, lal-kept t (p .stamps) (p .clock) (p .first) w settled clear);
-        leads = rw (← word, opened, clear .isLal);
+        leads = rw (read, write, ← word, opened, clear .isLal);
       }
 
 -- a DESL word that rule 3 allows

@@ -95,8 +95,9 @@ returns-6 c e =
           far-apart (rda (a .first)) (a .timing) (a .recent .read) (a .recent .write) (a .clock)
           (omega (arith, rbd .rbd .ensures, after-read .before .plus2 .ensures, after-read .if3 .left))
           (omega (arith, rbd .rbd .ensures, after-write .before .plus3 .ensures, after-write .if4 .left))
-          (rw (← opening .high .ensures, ← wrd .wrd .ensures, ← turn .before .rwd .ensures, ← other .choose .ensures, ← turn .choose2 .ensures)
-          (omega (arith, turned .before .plus4 .ensures, turned .if5 .left)));
+          (rw (← opening .high .ensures, ← wrd .wrd .ensures, ← turn .before .rwd .ensures)
+          (rw (← other .choose .ensures, ← turn .choose2 .ensures)
+          (omega (arith, turned .before .plus4 .ensures, turned .if5 .left))));
     }
 
 pub clear-spec : {M : Type 1} → statement M

@@ -52,6 +52,9 @@ module _ (c : tie.After-word-at Inv-loop μ-loop) where
   abbrev from : tie.At-loop Inv-loop μ-loop
   from = c .before .before
 
+  low : place from .clock < 16777216
+  low = omega arith
+
   inside : place from .clock < length (wordsOf (bytes from))
   inside = rw (words-length (bytes from)) (c .before .loop-test .taken)
 
@@ -69,7 +72,9 @@ early c =
 
 calm : (c : tie.Else3 Inv-loop μ-loop) → let l = from (c .before .before .before .before) in
     Settled (timing l) (place l .stamps) (place l .clock)
-calm c = let l = from (c .before .before .before .before) in l .loop .inv .calm (place l .clock) (omega arith) (c .if3 .left)
+calm c =
+    let w = c .before .before .before .before in
+    from w .loop .inv .calm (place (from w) .clock) (omega (arith, low w)) (c .if3 .left)
 
 -- it passes where no pair is open, and where it is the LAL word of a clear read or write
 idle : (c : tie.After-next-first Inv-loop μ-loop) → let l = from (c .before .before .before .before) in
@@ -82,15 +87,21 @@ idle c =
     idle-passes (timing l) (wordsOf (bytes l)) (place l) (inside w) (word w) (early (high .before))
     (sym (high .high .ensures) ∙ c .before .if2 .taken) (c .next-first .ensures)
 
-access : (c : tie.Else4 Inv-loop μ-loop) → let l = from (c .before .before .before .before .before .before .before) in
-    Passes (timing l) (wordsOf (bytes l)) (place l) (accessed (place l))
+access : (c : tie.After-choose2 Inv-loop μ-loop) → let tested = c .before .before .before in
+    let l = from (tested .before .before .before .before .before .before .before) in
+    Passes (timing l) (wordsOf (bytes l)) (place l) (accessed (place l) (c .before .choose .result) (c .choose2 .result))
 access c =
-    let settled = c .before .before .before in
+    let rda = c .before .before in
+    let tested = rda .before in
+    let settled = tested .before .before .before in
     let high = settled .before .before in
     let w = high .before .before in
     let l = from w in
     access-passes (timing l) (wordsOf (bytes l)) (place l) (inside w) (word w) (early (high .before))
-    (sym (high .high .ensures) ∙ settled .before .if2 .left) (calm settled) (c .before .clear .ensures (not-false _ (c .if4 .left)))
+    (sym (high .high .ensures) ∙ settled .before .if2 .left) (calm settled)
+    (tested .before .clear .ensures (not-false _ (tested .if4 .left)))
+    (rw (rda .high2 .ensures) at (c .before .choose .ensures))
+    (rw (rda .high2 .ensures) at (c .choose2 .ensures))
 
 refi-requires : tie.Need-refi-requires Inv-loop μ-loop
 refi-requires c κs = search needs
@@ -189,12 +200,12 @@ loop-less-2 c = omega arith
 
 loop-again-2 : tie.Need-loop-again-2 Inv-loop μ-loop
 loop-again-2 c =
-    let opened = c .before .before .before in
-    let l = from (opened .before .before .before .before .before .before .before) in
-    let inv = l .loop .inv in
+    let tested = c .before .before .before in
+    let w = tested .before .before .before .before .before .before .before in
+    let inv = from w .loop .inv in
     record {
-      fits = omega arith;
-      passed = rw (c .before .choose .ensures, c .choose2 .ensures, c .before .before .high2 .ensures) (more (inv .passed) (access opened));
+      fits = omega (arith, low w);
+      passed = more (inv .passed) (access c);
       due = inv .due;
       calm =
           λ k h since.
@@ -203,16 +214,16 @@ loop-again-2 c =
     }
 
 returns : tie.Need-returns Inv-loop μ-loop
-returns c = (c .before) .loop .inv .passed
+returns c = c .before .loop .inv .passed
 
 returns-2 : tie.Need-returns-2 Inv-loop μ-loop
-returns-2 c = (from (c .before)) .loop .inv .passed
+returns-2 c = from (c .before) .loop .inv .passed
 
 returns-3 : tie.Need-returns-3 Inv-loop μ-loop
-returns-3 c = (from (c .before .before .before .before)) .loop .inv .passed
+returns-3 c = from (c .before .before .before .before) .loop .inv .passed
 
 returns-4 : tie.Need-returns-4 Inv-loop μ-loop
-returns-4 c = (from (c .before .before .before .before .before .before .before)) .loop .inv .passed
+returns-4 c = from (c .before .before .before .before .before .before .before) .loop .inv .passed
 
 pub skimmed-spec : {M : Type 1} → statement M
 skimmed-spec =
