@@ -1,2 +1,2 @@
 -- What the quick look needs of the rules.
-pub mod Far
+pub mod Passing

@@ -1,29 +1,37 @@
 -- What a quick look at a word goes by.
-use Prim.Native.Nat.{ℕ, _+_, _/_, _^_, _≤_, _<_}
+use Prim.Native.Nat.{ℕ, _≤_}
 use mathlib.Core.List.{List}
 use mathlib.Core.Path.{_≡_}
-use mathlib.Core.Bool.{false}
-use lib.ListN.{length, getD}
+use mathlib.Core.Bool.{true, false}
+use lib.ListN.{getD}
 use Rattle.config.specs.declared.Timing.{Timing}
-use Rattle.rules.specs.Breaches.{near, notReady}
-use Rattle.rules.specs.Verdict.{Judgement}
+use Rattle.command.specs.Pairs.{rda, lal}
+use Rattle.reading.specs.Reading.{laneReserved}
+use Rattle.rules.specs.Breaches.{near, overdue, notReady, tooClose}
 use Rattle.stamps.specs.declared.Timestamps.{Timestamps}
+use Rattle.bytecheck.specs.Passed.{Passed}
+use Rattle.bytecheck.specs.declared.quick.Recent.{Recent}
 
 -- a read or write that closes at k breaches none of rules 6, 9 and 10
-abbrev pub Settled : Timing → Timestamps → ℕ → Type 0
-Settled t s k =
-    (notReady (s .extended) (s .regular) (getD (s .refs) 1 0) k ≡ false)
-    × (near k (s .mode) (t .rsc) ≡ false)
-    × (near k (getD (s .refs) 0 0) (t .refc) ≡ false)
+pub record Settled (t : Timing) (s : Timestamps) (k : ℕ) : Type 0 where
+  pub ready : notReady (s .extended) (s .regular) (getD (s .refs) 1 0) k ≡ false
+  pub afterMode : near k (s .mode) (t .rsc) ≡ false
+  pub afterRefresh : near k (getD (s .refs) 0 0) (t .refc) ≡ false
 
 -- so it is at every clock of a trace from this one on
 abbrev pub SettledFrom : Timing → Timestamps → ℕ → Type 0
 SettledFrom t s from = (k : ℕ) → k ≤ 16777216 → from ≤ k → Settled t s k
 
--- from clock k to j there is nothing but DESL, no later than `until` and with no pair open: what such words do not change is the
--- same at both
-abbrev pub OnlyDesl : ℕ → ℕ → List ℕ → ℕ → ℕ → Type 0
-OnlyDesl first until words k j =
-    (f : ℕ → Judgement)
-    → ((i : ℕ) → i < length words → i ≤ until → getD words i 0 / 2 ^ 18 ≡ 3 → first ≡ 0xC0000 → f i ≡ f (i + 1))
-    → f k ≡ f j
+-- the word at clock k is a LAL word, and keeps rules 5, 7 and 8
+pub record Clear (t : Timing) (recent : Recent) (k first word : ℕ) : Type 0 where
+  pub isLal : lal word ≡ true
+  pub unreserved : laneReserved t first word ≡ false
+  pub rested : near k (recent .bank) (t .rc) ≡ false
+  pub spaced : tooClose (rda first) true t (recent .read) (recent .write) k ≡ false
+
+-- the words from clock k to j breach nothing and change nothing, whatever is kept of the past, if rule 3 is kept up to `until`
+abbrev pub DeslPassed : ℕ → ℕ → List ℕ → ℕ → ℕ → Type 0
+DeslPassed first until words k j =
+    (t : Timing) (s : Timestamps)
+    → ((i : ℕ) → i ≤ until → overdue (t .refi) (getD (s .refs) 0 0) i ≡ false)
+    → Passed t words (record { clock = k; first = first; stamps = s }) (record { clock = j; first = first; stamps = s })

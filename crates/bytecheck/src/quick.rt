@@ -1,19 +1,23 @@
-// A quick look: what is true only of words that breach nothing, by a few comparisons.
+// A quick look: what is true only of words that breach nothing, by a few comparisons. It is there for speed.
+use crate::place::Place;
+use command::pins::BA0;
 use command::pins::CS;
 use command::pins::FN;
+use command::pins::PD;
 use command::pins::high;
 use config::Timing;
 use config::choose;
 use stamps::DESL;
 use stamps::Timestamps;
+use stamps::next_first;
 ghost use mathlib.Core.Path.{_≡_};
 ghost use mathlib.Core.Bool.{true, false};
 ghost use Prim.Native.Nat.{ℕ, _+_, _≤_, _/_};
 ghost use lib.ListN.{length};
-ghost use Rattle.command.specs.Pairs.{lal};
 ghost use Rattle.words.specs.Words.{wordsOf};
-ghost use Rattle.rules.specs.Breaches.{overdue, bankStamp, closingBreach};
-ghost use Rattle.bytecheck.specs.Quick.{SettledFrom, OnlyDesl};
+ghost use Rattle.rules.specs.Breaches.{overdue};
+ghost use Rattle.bytecheck.specs.Passed.{Passed};
+ghost use Rattle.bytecheck.specs.Quick.{SettledFrom, Clear, DeslPassed};
 
 // Past every clock of a trace.
 const NEVER: u64 = 16777217;
@@ -26,7 +30,7 @@ fn plus(stamp: u32, clocks: u32) -> u64
 }
 
 // The last clock that rule 3 allows; any one where there was no REF word yet.
-pub(crate) fn due(refi: u32, last: u32) -> u64
+fn due(refi: u32, last: u32) -> u64
     ensures { λ r. ⌜ ((k : ℕ) → k ≤ r → overdue refi last k ≡ false) ⌝ }
 {
     if last == 0 {
@@ -42,7 +46,7 @@ fn later(a: u64, b: u64) -> u64
 }
 
 // A clock from which on no read or write breaches rule 6, 9 or 10.
-pub(crate) fn settled_from(timing: Timing, stamps: Timestamps) -> u64
+fn settled_from(timing: Timing, stamps: Timestamps) -> u64
     ensures { λ r. ⌜ SettledFrom timing stamps r ⌝ }
 {
     let refs = stamps.refs;
@@ -56,37 +60,33 @@ pub(crate) fn settled_from(timing: Timing, stamps: Timestamps) -> u64
     later(plus(stamps.extended, 201), calm)
 }
 
-// True only of a LAL word that breaches none of rules 4 to 12; `bank` is its bank's timestamp.
-pub(crate) fn clear(
-    timing: Timing,
-    stamps: Timestamps,
+// The timestamps that rules 7 and 8 compare a read or write with: its bank's, the last read's and the last write's.
+struct Recent {
     bank: u32,
-    from: u64,
-    clock: u32,
-    first: u32,
-    word: u32,
-) -> bool
-    requires { ⌜ (bank ≡ bankStamp stamps first) × SettledFrom timing stamps from × (clock ≤ 16777216) ⌝ }
-    ensures { λ r. ⌜ (r ≡ true → (lal word ≡ true) × (closingBreach timing stamps clock first word ≡ 0)) ⌝ }
+    read: u32,
+    write: u32,
+}
+
+// True only of a LAL word that keeps rules 5, 7 and 8.
+fn clear(timing: Timing, recent: Recent, clock: u32, first: u32, word: u32) -> bool
+    ensures { λ r. ⌜ (r ≡ true → Clear timing recent clock first word) ⌝ }
 {
     let now = clock as u64;
     let rda = high(first, FN);
-    let other = choose(rda, stamps.write, stamps.read);
+    let rbd = timing.rbd();
+    let other = choose(rda, recent.write, recent.read);
     let turn = choose(rda, timing.wrd(), timing.rwd());
     let lal = high(word, CS);
     if !lal {
         return false;
     }
-    if now < from {
+    if now < plus(recent.bank, timing.rc()) {
         return false;
     }
-    if now < plus(bank, timing.rc()) {
+    if now < plus(recent.read, rbd) {
         return false;
     }
-    if now < plus(stamps.read, timing.rbd()) {
-        return false;
-    }
-    if now < plus(stamps.write, timing.rbd()) {
+    if now < plus(recent.write, rbd) {
         return false;
     }
     if now <= plus(other, turn) {
@@ -96,9 +96,9 @@ pub(crate) fn clear(
 }
 
 // Passes over the DESL words from a clock on that stand no later than `until`, where no pair is open.
-pub(crate) fn past_desl(bytes: &[u8], first: u32, clock: u32, until: u64) -> u32
-    requires { ⌜ (clock ≤ length (now bytes) / 4) × (length (now bytes) / 4 ≤ 16777216) ⌝ }
-    ensures { λ r. ⌜ (clock ≤ r) × (r ≤ length (now (bytes .entry)) / 4) × OnlyDesl first until (wordsOf (now (bytes .entry))) clock r ⌝ }
+fn past_desl(bytes: &[u8], first: u32, clock: u32, until: u64) -> u32
+    requires { ⌜ length (now bytes) / 4 ≤ 16777216 ⌝ }
+    ensures { λ r. ⌜ (clock ≤ r) × DeslPassed first until (wordsOf (now (bytes .entry))) clock r ⌝ }
 {
     if first != DESL {
         return clock;
@@ -113,4 +113,53 @@ pub(crate) fn past_desl(bytes: &[u8], first: u32, clock: u32, until: u64) -> u32
         at += 1;
     }
     at
+}
+
+// Goes on from a place as long as words surely breach nothing.
+pub(crate) fn skimmed(timing: Timing, bytes: &[u8], from: Place) -> Place
+    requires { ⌜ length (now bytes) / 4 ≤ 16777216 ⌝ }
+    ensures { λ r. ⌜ Passed timing (wordsOf (now (bytes .entry))) from r ⌝ }
+{
+    let mut stamps = from.stamps;
+    let mut first = from.first;
+    let mut clock = from.clock;
+    // Reads and writes change neither of these.
+    let until = due(timing.refi(), stamps.refs[0]);
+    let settled = settled_from(timing, stamps);
+    while (clock as usize) < bytes.len() / 4 {
+        let word = words::word_at(bytes, clock as usize);
+        let sound = (word / PD == 1) & (clock as u64 <= until);
+        if !sound {
+            break;
+        }
+        if high(first, CS) {
+            first = next_first(first, word);
+            clock = past_desl(bytes, first, clock + 1, until);
+            continue;
+        }
+        if (clock as u64) < settled {
+            break;
+        }
+        let bank = (first / BA0 % 8) as usize;
+        let recent = Recent {
+            bank: stamps.banks[bank],
+            read: stamps.read,
+            write: stamps.write,
+        };
+        if !clear(timing, recent, clock, first, word) {
+            break;
+        }
+        // `stamps.after(clock, first, word)` in place: it would copy the eight bank timestamps at each pair.
+        let rda = high(first, FN);
+        stamps.banks[bank] = clock;
+        stamps.read = choose(rda, clock, stamps.read);
+        stamps.write = choose(rda, stamps.write, clock);
+        first = DESL;
+        clock += 1;
+    }
+    Place {
+        clock,
+        first,
+        stamps,
+    }
 }

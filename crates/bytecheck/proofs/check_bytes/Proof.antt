@@ -14,7 +14,9 @@ enum-known-timing : tie.Need-enum-known-timing
 enum-known-timing c = search needs
 
 returns : tie.Need-returns
-returns c = rw (← c .before .before .before .before .timing .ensures, c .before .before .timing2 .given .1, ne-eqb _ 0 (c .if1 .taken))
+returns c =
+    let accepted = c .before .before in
+    rw (← accepted .before .before .timing .ensures, accepted .timing2 .given .1, ne-eqb _ 0 (c .if1 .taken))
 
 cast-if2 : tie.Need-cast-if2
 cast-if2 c = search needs
@@ -26,10 +28,18 @@ returns-2 : tie.Need-returns-2
 returns-2 c = rw (← c .before .before .before .timing .ensures, c .before .why .given .1)
 
 returns-3 : tie.Need-returns-3
-returns-3 c = rw (c .judged-bytes .ensures, ← c .before .before .before .before .before .before .timing .ensures, c .before .before .before .before .timing2 .given .1, eq-eqb _ 0 (c .before .before .if1 .left), le-leb _ _ (c .before .if2 .taken))
+returns-3 c =
+    let whole = c .before .before in
+    let accepted = whole .before .before in
+    rw (c .judged-bytes .ensures, ← accepted .before .before .timing .ensures, accepted .timing2 .given .1)
+    (rw (eq-eqb _ 0 (whole .if1 .left), le-leb _ _ (c .before .if2 .taken)))
 
 returns-4 : tie.Need-returns-4
-returns-4 c = rw (← c .before .before .before .before .before .timing .ensures, c .before .before .before .timing2 .given .1, eq-eqb _ 0 (c .before .if1 .left), lt-leb _ _ (c .if2 .left))
+returns-4 c =
+    let whole = c .before in
+    let accepted = whole .before .before in
+    rw (← accepted .before .before .timing .ensures, accepted .timing2 .given .1)
+    (rw (eq-eqb _ 0 (whole .if1 .left), lt-leb _ _ (c .if2 .left)))
 
 pub check-bytes-spec : {M : Type 1} → statement M
 check-bytes-spec =

@@ -1,58 +1,87 @@
--- As of a slice of words, by the list of words that the bytes make; beside it, the clock from which on reads and writes are settled.
--- Assumes nothing.
-use Prim.Native.Nat.{_-_, _/_, _≤_, _<_}
-use mathlib.Core.Path.{_≡_, refl, sym, _∙_, ap}
+-- The judgement of the whole trace is that from the place reached; the words skimmed do not change it. Assumes nothing.
+use Prim.Native.Nat.{ℕ, _-_, _/_, _≤_, _<_}
+use mathlib.Core.Path.{_≡_, sym, _∙_, ap}
+use mathlib.Core.List.{List}
 use native.Mathlib.Omega.{arith}
 use borrow.Author.Needs.{needs}
-use lib.ListN.{length, drop, getD}
+use lib.ListN.{length, getD}
 use denote.Ref.{now}
 use Rattle.config.specs.Outcome.{value}
+use Rattle.config.specs.declared.Timing.{Timing}
 use Rattle.words.specs.Words.{wordsOf}
 use Rattle.words.proofs.Listed.{words-length, word-listed}
-use Rattle.rules.specs.Verdict.{judge}
-use Rattle.rules.specs.Breaches.{earlyBreach}
-use Rattle.bytecheck.specs.Quick.{SettledFrom}
-use Rattle.bytecheck.proofs.Far.{early-by, idle-passes, clear-passes, desl-passes}
-use Rattle.rules.proofs.Words.{run, run-is, run-passes, run-breaches, run-ends}
+use Rattle.rules.specs.Verdict.{accepted, judge}
+use Rattle.rules.proofs.Words.{run-is, run-breaches, run-ends}
+use Rattle.bytecheck.specs.Passed.{Passes}
+use Rattle.bytecheck.specs.declared.place.Place.{Place}
+use Rattle.bytecheck.proofs.Passing.{passed-onward, runFrom, passes-run, passed-run}
 use Rattle.bytecheck.proofs.judged_bytes.Statement.{statement}
 use Rattle.bytecheck.proofs.judged_bytes.Tie as tie
 
 abbrev Inv-loop : tie.InvT-loop
-Inv-loop timing bytes stamps₀ from₀ first₀ clock₀ stamps from first clock =
-    (clock ≤ length bytes / 4)
-    × (judge timing (wordsOf bytes) ≡ run timing stamps clock first (drop clock (wordsOf bytes)))
-    × SettledFrom timing stamps from
+Inv-loop timing bytes place₀ place = judge timing (wordsOf bytes) ≡ runFrom timing (wordsOf bytes) place
 
 abbrev μ-loop : tie.MeasureT-loop
-μ-loop timing bytes stamps₀ from₀ first₀ clock₀ stamps from first clock = length bytes / 4 - clock
+μ-loop timing bytes place₀ place = length bytes / 4 - place .clock
 
--- the place is inside the list of words, and what was read is its word
+-- where the skimming ends
+module _ (c : tie.After-skimmed Inv-loop μ-loop) where
+  abbrev timing : Timing
+  timing = c .before .before .before .before .before .before .args .timing
+
+  abbrev bytes : List ℕ
+  bytes = now (c .before .before .before .before .before .before .args .bytes)
+
+  abbrev place : Place
+  place = c .skimmed .result
+
+  reached : judge timing (wordsOf bytes) ≡ runFrom timing (wordsOf bytes) place
+  reached = c .before .before .before .loop .inv ∙ passed-run timing (wordsOf bytes) (c .skimmed .ensures)
+
+-- the word there
 module _ (c : tie.After-word-at Inv-loop μ-loop) where
-  inside : c .before .before .loop .clock < length (wordsOf (now (c .before .before .before .before .before .before .args .bytes)))
-  inside = rw (words-length (now (c .before .before .before .before .before .before .args .bytes))) (c .before .loop-test .taken)
+  abbrev at : tie.After-skimmed Inv-loop μ-loop
+  at = c .before .before
 
-  word : c .word-at .result ≡ getD (wordsOf (now (c .before .before .before .before .before .before .args .bytes))) (c .before .before .loop .clock) 0
-  word = c .word-at .ensures ∙ word-listed (now (c .before .before .before .before .before .before .args .bytes)) (c .before .before .loop .clock) (c .before .loop-test .taken)
+  inside : place at .clock < length (wordsOf (bytes at))
+  inside = rw (words-length (bytes at)) (c .before .if2 .left)
 
-early : (c : tie.Then1 Inv-loop μ-loop) → let l = c .before .before .before .before .before .loop in
-    earlyBreach (c .before .before .before .before .before .before .before .before .before .args .timing .refi) (getD (l .stamps .refs) 0 0) (l .clock) (c .before .before .before .word-at .result) ≡ 0
-early c =
-    let l = c .before .before .before .before .before .loop in
-    early-by (c .before .before .before .before .before .before .before .before .before .args .timing .refi) (getD (l .stamps .refs) 0 0) (l .clock) (c .before .before .before .word-at .result) (c .before .due .result) (c .if1 .taken) (c .before .due .ensures)
+  word : c .word-at .result ≡ getD (wordsOf (bytes at)) (place at .clock) 0
+  word = c .word-at .ensures ∙ word-listed (bytes at) (place at .clock) (c .before .if2 .left)
 
-never-requires : tie.Need-never-requires Inv-loop μ-loop
-never-requires c κs = search needs
+-- where it breaches nothing
+passes : (c : tie.After-after Inv-loop μ-loop) → let p = at (c .before .before .before) in
+    Passes (timing p) (wordsOf (bytes p)) (place p) (c .after .result)
+passes c =
+    let tested = c .before .before in
+    let w = tested .before in
+    record {
+      inside = inside w;
+      sound = rw (← word w, ← tested .word-breach .ensures) (c .before .if3 .left);
+      leads = rw (← word w) (c .after .ensures);
+    }
 
-settled-from-requires : tie.Need-settled-from-requires Inv-loop μ-loop
-settled-from-requires c κs = search needs
+-- at the end of the words
+ends : (t : Timing) (bytes : List ℕ) (p : Place) → judge t (wordsOf bytes) ≡ runFrom t (wordsOf bytes) p
+    → length bytes / 4 ≤ p .clock → value accepted ≡ value (judge t (wordsOf bytes))
+ends t bytes p e h = ap value (sym (e ∙ run-ends t (p .stamps) (p .first) (wordsOf bytes) (p .clock) (rw (words-length bytes) h)))
+
+start-requires : tie.Need-start-requires Inv-loop μ-loop
+start-requires c κs = search needs
 
 loop-holds : tie.Need-loop-holds Inv-loop μ-loop
 loop-holds c =
-    let a = c .before .before .before .args in
-    (omega arith, rw (c .before .never .ensures) (run-is (a .timing) (wordsOf (now (a .bytes)))), c .settled-from .ensures)
+    let a = c .before .before .args in
+    rw (c .start .ensures) (run-is (a .timing) (wordsOf (now (a .bytes))))
 
-cast-loop : tie.Need-cast-loop Inv-loop μ-loop
-cast-loop c = search needs
+cast-if1 : tie.Need-cast-if1 Inv-loop μ-loop
+cast-if1 c = search needs
+
+skimmed-requires : tie.Need-skimmed-requires Inv-loop μ-loop
+skimmed-requires c κs = search needs
+
+cast-if2 : tie.Need-cast-if2 Inv-loop μ-loop
+cast-if2 c = search needs
 
 cast-word-at : tie.Need-cast-word-at Inv-loop μ-loop
 cast-word-at c = search needs
@@ -60,126 +89,38 @@ cast-word-at c = search needs
 word-at-requires : tie.Need-word-at-requires Inv-loop μ-loop
 word-at-requires c κs = search needs
 
-cast-bank : tie.Need-cast-bank Inv-loop μ-loop
-cast-bank c = search needs
-
-element-copy-out-due : tie.Need-element-copy-out-due Inv-loop μ-loop
-element-copy-out-due c = search needs
-
-due-requires : tie.Need-due-requires Inv-loop μ-loop
-due-requires c κs = search needs
-
-cast-if1 : tie.Need-cast-if1 Inv-loop μ-loop
-cast-if1 c = search needs
-
-next-first-requires : tie.Need-next-first-requires Inv-loop μ-loop
-next-first-requires c κs = search needs
-
-add-past-desl : tie.Need-add-past-desl Inv-loop μ-loop
-add-past-desl c = omega arith
-
-past-desl-requires : tie.Need-past-desl-requires Inv-loop μ-loop
-past-desl-requires c κs = search needs
-
-loop-less : tie.Need-loop-less Inv-loop μ-loop
-loop-less c = omega arith
-
-loop-again : tie.Need-loop-again Inv-loop μ-loop
-loop-again c =
-    let w = c .before .before .before .before .before .before in
-    let l = w .before .before .loop in
-    let t = w .before .before .before .before .before .before .args .timing in
-    let ws = wordsOf (now (w .before .before .before .before .before .before .args .bytes)) in
-    let first = c .before .next-first .result in
-    let idle = idle-passes t (l .stamps) (l .clock) (l .first) (w .word-at .result) (early (c .before .before .before)) (c .before .before .if2 .taken) in (
-      omega arith,
-      l .inv .1
-          ∙ run-passes t (l .stamps) (l .first) ws (l .clock) (inside w) (word w) (idle .0) refl (idle .1) (c .before .next-first .ensures)
-          ∙ c .past-desl .ensures .2 (λ k. run t (l .stamps) k first (drop k ws))
-          (λ i h due e q. rw q (desl-passes t (l .stamps) ws i h (c .before .before .before .before .due .ensures i due) e)),
-      l .inv .2,
-    )
-
-mul-clear : tie.Need-mul-clear Inv-loop μ-loop
-mul-clear c = search needs
-
-element-copy-out-clear : tie.Need-element-copy-out-clear Inv-loop μ-loop
-element-copy-out-clear c = search needs
-
-clear-requires : tie.Need-clear-requires Inv-loop μ-loop
-clear-requires c κs = search needs
-
-mul-stamps : tie.Need-mul-stamps Inv-loop μ-loop
-mul-stamps c = search needs
-
-element-write-stamps : tie.Need-element-write-stamps Inv-loop μ-loop
-element-write-stamps c = search needs
-
-choose-requires : tie.Need-choose-requires Inv-loop μ-loop
-choose-requires c κs = search needs
-
-choose-requires-2 : tie.Need-choose-requires-2 Inv-loop μ-loop
-choose-requires-2 c κs = search needs
-
-add-clock : tie.Need-add-clock Inv-loop μ-loop
-add-clock c = omega arith
-
-loop-less-2 : tie.Need-loop-less-2 Inv-loop μ-loop
-loop-less-2 c = omega arith
-
-loop-again-2 : tie.Need-loop-again-2 Inv-loop μ-loop
-loop-again-2 c =
-    let w = c .before .before .before .before .before .before .before .before .before in
-    let l = w .before .before .loop in
-    let a = w .before .before .before .before .before .before .args in
-    let clear = clear-passes (a .timing) (l .stamps) (l .clock) (l .first) (w .word-at .result) (early (c .before .before .before .before .before .before)) (c .before .before .before .before .before .if2 .left) (c .before .before .before .clear .ensures (c .before .before .if3 .taken)) in (
-      omega arith,
-      l .inv .1
-          ∙ run-passes (a .timing) (l .stamps) (l .first) (wordsOf (now (a .bytes))) (l .clock) (inside w) (word w) (clear .0) refl (rw (c .before .choose .ensures, c .choose2 .ensures) (clear .1)) (clear .2),
-      l .inv .2,
-    )
-
 word-breach-requires : tie.Need-word-breach-requires Inv-loop μ-loop
 word-breach-requires c κs = search needs
 
 returns : tie.Need-returns Inv-loop μ-loop
 returns c =
-    let w = c .before .before .before .before .before in
-    let l = w .before .before .loop in
-    let a = w .before .before .before .before .before .before .args in
-    ap value (sym (l .inv .1 ∙ run-breaches (a .timing) (l .stamps) (l .first) (wordsOf (now (a .bytes))) (l .clock) (inside w) (word w) (c .before .word-breach .ensures) (c .if4 .taken)))
+    let tested = c .before in
+    let w = tested .before in
+    let p = at w in
+    let stopped =
+    run-breaches (timing p) (place p .stamps) (place p .first) (wordsOf (bytes p)) (place p .clock) (inside w) (word w)
+    (tested .word-breach .ensures) (c .if3 .taken) in
+    ap value (sym (reached p ∙ stopped))
 
 after-requires : tie.Need-after-requires Inv-loop μ-loop
 after-requires c κs = search needs
 
-settled-from-requires-2 : tie.Need-settled-from-requires-2 Inv-loop μ-loop
-settled-from-requires-2 c κs = search needs
+loop-less : tie.Need-loop-less Inv-loop μ-loop
+loop-less c = rw (c .after .ensures) (omega (arith, passed-onward (at (c .before .before .before) .skimmed .ensures)))
 
-next-first-requires-2 : tie.Need-next-first-requires-2 Inv-loop μ-loop
-next-first-requires-2 c κs = search needs
-
-add-clock-2 : tie.Need-add-clock-2 Inv-loop μ-loop
-add-clock-2 c = omega arith
-
-loop-less-3 : tie.Need-loop-less-3 Inv-loop μ-loop
-loop-less-3 c = omega arith
-
-loop-again-3 : tie.Need-loop-again-3 Inv-loop μ-loop
-loop-again-3 c =
-    let w = c .before .before .before .before .before .before .before .before in
-    let l = w .before .before .loop in
-    let a = w .before .before .before .before .before .before .args in (
-      omega arith,
-      l .inv .1
-          ∙ run-passes (a .timing) (l .stamps) (l .first) (wordsOf (now (a .bytes))) (l .clock) (inside w) (word w) (c .before .before .before .before .word-breach .ensures) (c .before .before .before .if4 .left) (c .before .before .after .ensures) (c .next-first2 .ensures),
-      c .before .settled-from2 .ensures,
-    )
+loop-again : tie.Need-loop-again Inv-loop μ-loop
+loop-again c =
+    let p = at (c .before .before .before) in
+    reached p ∙ passes-run (timing p) (wordsOf (bytes p)) (passes c)
 
 returns-2 : tie.Need-returns-2 Inv-loop μ-loop
 returns-2 c =
-    let l = c .before .loop in
-    let a = c .before .before .before .before .before .args in
-    ap value (sym (l .inv .1 ∙ run-ends (a .timing) (l .stamps) (l .first) (wordsOf (now (a .bytes))) (l .clock) (rw (words-length (now (a .bytes))) (c .loop-test .left))))
+    let l = c .before .before in
+    let a = l .before .before .before .args in
+    ends (a .timing) (now (a .bytes)) (l .loop .place) (l .loop .inv) (c .if1 .left)
+
+returns-3 : tie.Need-returns-3 Inv-loop μ-loop
+returns-3 c = let p = c .before in ends (timing p) (bytes p) (place p) (reached p) (c .if2 .taken)
 
 pub judged-bytes-spec : {M : Type 1} → statement M
 judged-bytes-spec =
@@ -187,37 +128,17 @@ judged-bytes-spec =
     (tie.spec
     Inv-loop
     μ-loop
-    never-requires
-    settled-from-requires
+    start-requires
     loop-holds
-    cast-loop
+    cast-if1
+    skimmed-requires
+    cast-if2
     cast-word-at
     word-at-requires
-    cast-bank
-    element-copy-out-due
-    due-requires
-    cast-if1
-    next-first-requires
-    add-past-desl
-    past-desl-requires
-    loop-less
-    loop-again
-    mul-clear
-    element-copy-out-clear
-    clear-requires
-    mul-stamps
-    element-write-stamps
-    choose-requires
-    choose-requires-2
-    add-clock
-    loop-less-2
-    loop-again-2
     word-breach-requires
     returns
     after-requires
-    settled-from-requires-2
-    next-first-requires-2
-    add-clock-2
-    loop-less-3
-    loop-again-3
-    returns-2)
+    loop-less
+    loop-again
+    returns-2
+    returns-3)

@@ -1,89 +1,125 @@
--- Each rule that a LAL word can breach is kept by one of the tests. Assumes nothing.
+-- Each of rules 5, 7 and 8 is kept by one of the tests. Assumes nothing.
 use Prim.Native.Nat.{ℕ, _+_, _≤_, _<_}
 use mathlib.Core.Path.{_≡_, sym, _∙_}
 use mathlib.Core.Bool.{Bool, true, false, cond, false≢true}
 use native.Mathlib.Omega.{arith}
 use borrow.Author.Tests.{not-true, not-false}
-use Rattle.config.specs.declared.Timing.{Timing}
-use Rattle.command.specs.Pairs.{rda, lal}
-use Rattle.rules.specs.Breaches.{bankStamp, tooClose}
-use Rattle.rules.proofs.ByKind.{at-lal}
-use Rattle.bytecheck.proofs.Far.{far}
 use borrow.Author.Needs.{needs}
+use Rattle.config.specs.declared.Timing.{Timing}
+use Rattle.command.specs.Pairs.{rda}
+use Rattle.rules.specs.Breaches.{tooClose}
+use Rattle.bytecheck.proofs.Passing.{far}
 use Rattle.bytecheck.proofs.quick.clear.Statement.{statement}
 use Rattle.bytecheck.proofs.quick.clear.Tie as tie
 
-spaced : (rda : Bool) (t : Timing) (read write k : ℕ) → read + t .rbd ≤ k → write + t .rbd ≤ k
+far-apart : (rda : Bool) (t : Timing) (read write k : ℕ) → read + t .rbd ≤ k → write + t .rbd ≤ k
     → cond rda write read + cond rda (t .wrd) (t .rwd) < k → tooClose rda true t read write k ≡ false
-spaced true t read write k r w o = rw (far k read (t .rbd) r, far k write (t .rbd) w) (far k write (t .wrd + 1) (omega arith))
-spaced false t read write k r w o = rw (far k read (t .rbd) r, far k write (t .rbd) w, far k read (t .rwd + 1) (omega arith))
+far-apart true t read write k r w o = rw (far k read (t .rbd) r, far k write (t .rbd) w) (far k write (t .wrd + 1) (omega arith))
+far-apart false t read write k r w o = rw (far k read (t .rbd) r, far k write (t .rbd) w, far k read (t .rwd + 1) (omega arith))
+
+high-requires : tie.Need-high-requires
+high-requires c κs = search needs
+
+rbd-requires : tie.Need-rbd-requires
+rbd-requires c κs = search needs
 
 choose-requires : tie.Need-choose-requires
 choose-requires c κs = search needs
 
+wrd-requires : tie.Need-wrd-requires
+wrd-requires c κs = search needs
+
+rwd-requires : tie.Need-rwd-requires
+rwd-requires c κs = search needs
+
 choose-requires-2 : tie.Need-choose-requires-2
 choose-requires-2 c κs = search needs
+
+high-requires-2 : tie.Need-high-requires-2
+high-requires-2 c κs = search needs
 
 returns : tie.Need-returns
 returns c e = absurd (false≢true e)
 
-returns-2 : tie.Need-returns-2
-returns-2 c e = absurd (false≢true e)
+rc-requires : tie.Need-rc-requires
+rc-requires c κs = search needs
 
 plus-requires : tie.Need-plus-requires
 plus-requires c κs = search needs
 
-returns-3 : tie.Need-returns-3
-returns-3 c e = absurd (false≢true e)
+returns-2 : tie.Need-returns-2
+returns-2 c e = absurd (false≢true e)
 
 plus-requires-2 : tie.Need-plus-requires-2
 plus-requires-2 c κs = search needs
 
-returns-4 : tie.Need-returns-4
-returns-4 c e = absurd (false≢true e)
+returns-3 : tie.Need-returns-3
+returns-3 c e = absurd (false≢true e)
 
 plus-requires-3 : tie.Need-plus-requires-3
 plus-requires-3 c κs = search needs
 
-returns-5 : tie.Need-returns-5
-returns-5 c e = absurd (false≢true e)
+returns-4 : tie.Need-returns-4
+returns-4 c e = absurd (false≢true e)
 
 plus-requires-4 : tie.Need-plus-requires-4
 plus-requires-4 c κs = search needs
 
-returns-6 : tie.Need-returns-6
-returns-6 c e = absurd (false≢true e)
+returns-5 : tie.Need-returns-5
+returns-5 c e = absurd (false≢true e)
 
 lane-reserved-requires : tie.Need-lane-reserved-requires
 lane-reserved-requires c κs = search needs
 
-returns-7 : tie.Need-returns-7
-returns-7 c e =
-    let a = c .before .before .before .before .before .before .before .before .before .before .before .before .before .args in
-    let p = c .before .before .before .before .before .before .before .before .before .before .before .before .before .pre in
-    let l = not-false (lal (a .word)) (c .before .before .before .before .before .before .before .before .before .before .if1 .left) in
-    let settled = p .1 (a .clock) (p .2) (omega arith) in
-    let bank = far (a .clock) (bankStamp (a .stamps) (a .first)) (a .timing .rc) (rw (← p .0) (omega arith)) in
-    let close =
-    spaced (rda (a .first)) (a .timing) (a .stamps .read) (a .stamps .write) (a .clock) (omega arith) (omega arith)
-    (rw (← c .before .before .before .before .before .before .before .before .before .before .before .before .choose .ensures, ← c .before .before .before .before .before .before .before .before .before .before .before .choose2 .ensures) (omega arith)) in
-    (l, sym (at-lal (a .timing) (a .stamps) (a .clock) (a .first) (a .word) l (sym (not-true (c .lane-reserved .result) e) ∙ c .lane-reserved .ensures) (sym (settled .0)) (sym bank) (sym close) (sym (settled .1)) (sym (settled .2))))
+returns-6 : tie.Need-returns-6
+returns-6 c e =
+    let reserved = c .lane-reserved in
+    let turned = c .before in
+    let after-write = turned .before .before in
+    let after-read = after-write .before .before in
+    let same-bank = after-read .before .before in
+    let closing = same-bank .before .before .before in
+    let turn = closing .before .before in
+    let wrd = turn .before .before in
+    let other = wrd .before in
+    let rbd = other .before in
+    let opening = rbd .before in
+    let a = opening .before .args in
+    record {
+      isLal = sym (closing .before .high2 .ensures) ∙ not-false (closing .before .high2 .result) (closing .if1 .left);
+      unreserved = sym (reserved .ensures) ∙ not-true (reserved .result) e;
+      rested =
+          far (a .clock) (a .recent .bank) (a .timing .rc)
+          (omega (arith, same-bank .before .before .rc .ensures, same-bank .before .plus .ensures, same-bank .if2 .left));
+      spaced =
+          far-apart (rda (a .first)) (a .timing) (a .recent .read) (a .recent .write) (a .clock)
+          (omega (arith, rbd .rbd .ensures, after-read .before .plus2 .ensures, after-read .if3 .left))
+          (omega (arith, rbd .rbd .ensures, after-write .before .plus3 .ensures, after-write .if4 .left))
+          (rw (← opening .high .ensures, ← wrd .wrd .ensures, ← turn .before .rwd .ensures)
+          (rw (← other .choose .ensures, ← turn .choose2 .ensures)
+          (omega (arith, turned .before .plus4 .ensures, turned .if5 .left))));
+    }
 
 pub clear-spec : {M : Type 1} → statement M
 clear-spec =
     tie.close
     (tie.spec
+    high-requires
+    rbd-requires
     choose-requires
+    wrd-requires
+    rwd-requires
     choose-requires-2
+    high-requires-2
     returns
-    returns-2
+    rc-requires
     plus-requires
-    returns-3
+    returns-2
     plus-requires-2
-    returns-4
+    returns-3
     plus-requires-3
-    returns-5
+    returns-4
     plus-requires-4
-    returns-6
+    returns-5
     lane-reserved-requires
-    returns-7)
+    returns-6)

@@ -1,0 +1,41 @@
+// A place in a trace, with what a check keeps of the words before it.
+use stamps::DESL;
+use stamps::Timestamps;
+use stamps::next_first;
+ghost use mathlib.Core.Path.{_≡_};
+ghost use Prim.Native.Nat.{_<_};
+ghost use Rattle.bytecheck.specs.Passed.{start, next};
+
+pub(crate) struct Place {
+    // The clock of the next word.
+    pub(crate) clock: u32,
+    // The first word of the open pair, or a word with CS high where none is open.
+    pub(crate) first: u32,
+    pub(crate) stamps: Timestamps,
+}
+
+impl Place {
+    pub(crate) fn start() -> Place
+        ensures { λ r. ⌜ r ≡ start ⌝ }
+    {
+        Place {
+            clock: 0,
+            first: DESL,
+            stamps: Timestamps::never(),
+        }
+    }
+
+    pub(crate) fn after(self, word: u32) -> Place
+        requires { ⌜ self .clock < 16777216 ⌝ }
+        ensures { λ r. ⌜ r ≡ next self word ⌝ }
+    {
+        let stamps = self.stamps;
+        let clock = self.clock;
+        let first = self.first;
+        Place {
+            clock: clock + 1,
+            first: next_first(first, word),
+            stamps: stamps.after(clock, first, word),
+        }
+    }
+}
