@@ -2,8 +2,8 @@
 --     Cursor κ               the struct's type, where its words are lent for κ
 --     wordsVal, configVal, checkerVal, cursorVal, movedVal      the machine values
 --     checker-is             the relation of a struct's checker, from the struct's.        answer-is      the relation of a `Moved`, from those of its parts
---     config-made …          what a plain type's relation makes of it: what a value owns is had for nothing
---     config-typed …         a machine value that the relation relates to a value is of the type in MIR
+--     progress-made          what an answer owns is had for nothing
+--     words-typed …          a machine value that the relation relates to a value is of the type in MIR
 --     changed                what the struct owns with another checker
 --     Both, kept, both       what the parameters words and another own. It gives what words owns once more; and with config it is made of that
 -- The laws assume `Given`. The rest assumes nothing.
@@ -25,7 +25,7 @@ use denote.Laws.{Is, Makes}
 use denote.Builtin.{u32}
 use denote.Ref.{RefT, NamedLft}
 use denote.Slice.{sliceVal, ShrSlice, shr-slice-lawful, shr-slice-copy}
-use denote.Steps.{owned, nothing}
+use denote.Steps.{nothing}
 use denote.Enum.Laws as EL
 use denote.Struct.Declared.{Declared}
 use denote.Struct.Laws as LL
@@ -36,6 +36,7 @@ use Rattle.config.proofs.Config.Laws as F′
 use Rattle.protocol.specs.declared.checker.Checker.{Checker}
 use Rattle.protocol.proofs.checker.Checker as K
 use Rattle.protocol.proofs.checker.Checker.Laws as K′
+use Rattle.borrowed.proofs.Behind.{owned-data}
 use Rattle.cursor.specs.declared.TraceCursor.{TraceCursor}
 use Rattle.cursor.specs.declared.Moved.{Moved}
 use Rattle.cursor.specs.declared.Progress.{Progress}
@@ -95,28 +96,12 @@ Words κ s = ShrSlice (named 0) κ u32 .own s (wordsVal s ∷ [])
 abbrev pub Both : Lft → RefT (List ℕ) → (R : RattleType) → R .Denot → List Val → Fml
 Both κ s R x vs = owns (ShrSlice (named 0) κ u32 ∷ R ∷ []) (s, (x, tt)) (wordsVal s ∷ [], (vs, tt))
 
-module _ {M : Type 1} (𝓤 : URA M) (H : Heap 𝓤) (A : Atoms 𝓤) where
-  pub config-made : Makes 𝓤 H A F.the-row (Is F.the-row)
-  config-made = LL.makes F.the-type F′.the-plain 𝓤 H A
+pub progress-made : {M : Type 1} (𝓤 : URA M) (H : Heap 𝓤) (A : Atoms 𝓤) → Makes 𝓤 H A P.the-row (Is P.the-row)
+progress-made 𝓤 H A = EL.makes P.the-type P′.the-plain 𝓤 H A
 
-  pub checker-made : Makes 𝓤 H A K.the-row (Is K.the-row)
-  checker-made = LL.makes K.the-type K′.the-plain 𝓤 H A
-
-  pub progress-made : Makes 𝓤 H A P.the-row (Is P.the-row)
-  progress-made = EL.makes P.the-type P′.the-plain 𝓤 H A
-
-  pub moved-made : Makes 𝓤 H A N.the-row (Is N.the-row)
-  moved-made = LL.makes N.the-type N′.the-plain 𝓤 H A
-
-module _ {M : Type 1} (𝓤 : URA M) (H : Heap 𝓤) (A : Atoms 𝓤) (W : Given 𝓤 H A) where
+module _ {M : Type 1} {𝓤 : URA M} {H : Heap 𝓤} {A : Atoms 𝓤} (W : Given 𝓤 H A) where
   pub words-typed : (κ : Lft) (s : RefT (List ℕ)) → Is (ShrSlice (named 0) κ u32) s (wordsVal s ∷ []) → WT (wordsVal s)
   words-typed κ s is = shr-slice-lawful 𝓤 H A W (named 0) κ u32 .typed s _ is .0 .1
-
-  pub config-typed : (c : Config) (w : Val) → Is F.the-row c (w ∷ []) → Holds (hasTy F′.mir w) × WT w
-  config-typed c w is = LL.lawful F.the-type F′.the-laws 𝓤 H A W .typed c _ is .0
-
-  pub checker-typed : (k : Checker) (w : Val) → Is K.the-row k (w ∷ []) → Holds (hasTy K′.mir w) × WT w
-  checker-typed k w is = LL.lawful K.the-type K′.the-laws 𝓤 H A W .typed k _ is .0
 
   pub progress-typed : (p : Progress) (w : Val) → Is P.the-row p (w ∷ []) → Holds (hasTy P′.mir w) × WT w
   progress-typed p w is = EL.lawful P.the-type P′.the-laws 𝓤 H A W tt .typed p _ is .0
@@ -126,13 +111,15 @@ module _ {M : Type 1} (𝓤 : URA M) (H : Heap 𝓤) (A : Atoms 𝓤) (W : Given
 
   -- at any name of the lifetime, as a result has it and as a local does
   pub cursor-typed : (ℓ : Lifetime) (κ : Lft) (d : TraceCursor) (w : Val) → Is (Cursor κ) d (w ∷ []) → Holds (hasTy (T′.mir ℓ) w) × WT w
-  cursor-typed ℓ κ d w is = LL.lawful (T.the-type (record { mir = ℓ; lft = κ })) (T′.the-laws (record { mir = ℓ; lft = κ })) 𝓤 H A W .typed d _ is .0
+  cursor-typed ℓ κ d w is =
+      let β : NamedLft = record { mir = ℓ; lft = κ } in
+      LL.lawful (T.the-type β) (T′.the-laws β) 𝓤 H A W .typed d _ is .0
 
   -- ---- another checker in the struct: what the words own is kept, and the checker's facts are those of the new one
   pub changed : (κ : Lft) (d : TraceCursor) (w : Val) (k : Checker) → Is K.the-row k (checkerVal k ∷ [])
       → ent 𝓤 (sem 𝓤 H A (Cursor κ .own d (w ∷ []))) (sem 𝓤 H A (Cursor κ .own (with-checker d k) (cursorVal κ (with-checker d k) ∷ [])))
   changed κ d w k is =
-      qed W (‵ (Cursor κ .own d (w ∷ [])) ∷ []) ∵ owned ! K.the-row (Is K.the-row) (checker-made 𝓤 H A) k _ is $ move ! (1 ∷ 0 ∷ []) $
+      qed W (‵ (Cursor κ .own d (w ∷ [])) ∷ []) ∵ owned-data ! K.the-type K′.the-plain k _ is $ move ! (1 ∷ 0 ∷ []) $
       by ! (own-put 𝓤 H A W (D κ) (L κ) 1 (d .words, (d .checker, tt)) k w)
 
   -- ---- what the two parameters own
@@ -144,4 +131,4 @@ module _ {M : Type 1} (𝓤 : URA M) (H : Heap 𝓤) (A : Atoms 𝓤) (W : Given
 
     pub both : (c : Config) → Is F.the-row c (configVal c ∷ []) → ent 𝓤 (sem 𝓤 H A (Words κ s)) (sem 𝓤 H A (Both κ s F.the-row c (configVal c ∷ [])))
     both c is =
-        qed W (‵ (Words κ s) ∷ []) ∵ nothing ! $ owned ! F.the-row (Is F.the-row) (config-made 𝓤 H A) c _ is $ fjoin ! $ move ! (1 ∷ 0 ∷ []) $ fjoin ! $ done !
+        qed W (‵ (Words κ s) ∷ []) ∵ nothing ! $ owned-data ! F.the-type F′.the-plain c _ is $ fjoin ! $ move ! (1 ∷ 0 ∷ []) $ fjoin ! $ done !

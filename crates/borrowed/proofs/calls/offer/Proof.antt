@@ -1,6 +1,7 @@
 -- `offer` meets its contract: a walk of its MIR, by hand. The borrow is opened, the controller is copied out, `Controller::offer` is called on
 -- the copy and the request, and the borrow is closed at the controller that the call hands back. `Behind` has what `tick`'s walk shares.
 -- All that the proof knows of `Controller::offer` is that it meets its contract. Assumes nothing.
+-- The locals of its MIR: _0 the answer, _1 controller, _2 request, _3 offered, _4 the copy of the controller.
 use mathlib.Core.Path.{_≡_, refl}
 use Prim.Native.Nat.{ℕ}
 use mathlib.Core.List.{List, [], _∷_}
@@ -50,7 +51,7 @@ use Rattle.controller.proofs.Controller.offer.Symbol as callee-def
 use Rattle.controller.proofs.Controller.offer.Symbol.{name as #callee}
 use Rattle.controller.proofs.Controller.offer.Met as callee-thm
 use Rattle.borrowed.proofs.Locals.{cell, begins, aside, freed, held, held-field, sets, lands-in}
-use Rattle.borrowed.proofs.Behind.{opened, closed, told, typed, reached}
+use Rattle.borrowed.proofs.Behind.{owned-data, opened, closed, told, typed, reached}
 use Rattle.borrowed.proofs.calls.offer.Key.{name as #offer}
 use Rattle.borrowed.proofs.calls.offer as offer
 use Rattle.borrowed.proofs.calls.offer.Statement as stated
@@ -71,74 +72,74 @@ module _ (r : Offered) (is : Is S.the-row r (LL.vals S.the-type S′.the-laws r)
   answer-is : Is G.the-row (r .answer) (out r ∷ [])
   answer-is = LL.owed S.the-type S′.the-laws r _ is .0
 
--- the contract that the proof cites
-abbrev Callee : {M : Type 1} (𝓤 : URA M) (H : Heap 𝓤) (A : Atoms 𝓤) (mem : Memory → SProp 𝓤) (run : Routine → Fun 𝓤) → Contract 𝓤
-Callee 𝓤 H A mem run = tripleOf 𝓤 H A callee.signature (callee.spec 𝓤 H A mem run)
+module _ {M : Type 1} (𝓤 : URA M) (H : Heap 𝓤) (A : Atoms 𝓤) (mem : Memory → SProp 𝓤) (run : Routine → Fun 𝓤) where
+  -- the contract that the proof cites
+  abbrev Callee : Contract 𝓤
+  Callee = tripleOf 𝓤 H A callee.signature (callee.spec 𝓤 H A mem run)
 
-module _ {M : Type 1} (𝓤 : URA M) (H : Heap 𝓤) (A : Atoms 𝓤) (W : Given 𝓤 H A) (mem : Memory → SProp 𝓤) (run : Routine → Fun 𝓤)
-    (κ : Lft) (q : Share) (b o : ℕ) (γ : GName) (h : Controller) (request : Request)
-    (request-is : Is Q.the-row request (LL.vals Q.the-type Q′.the-laws request)) where
-  -- the reference, at the controller c
-  abbrev ref : Controller → RefT Controller
-  ref c = record { ptr = (b, o); name = γ; now = c }
+  module _ (W : Given 𝓤 H A) (κ : Lft) (q : Share) (b o : ℕ) (γ : GName) (h : Controller) (request : Request)
+      (request-is : Is Q.the-row request (LL.vals Q.the-type Q′.the-laws request)) where
+    -- the reference, at the controller c
+    abbrev ref : Controller → RefT Controller
+    ref c = record { ptr = (b, o); name = γ; now = c }
 
-  -- the machine values of the controller and of the request
-  abbrev mach : Val
-  mach = LL.val T.the-type T′.the-laws h
+    -- the machine values of the controller and of the request
+    abbrev mach : Val
+    mach = LL.val T.the-type T′.the-laws h
 
-  abbrev asked : Val
-  asked = LL.val Q.the-type Q′.the-laws request
+    abbrev asked : Val
+    asked = LL.val Q.the-type Q′.the-laws request
 
-  abbrev at : List Val × (List Val × Unit {0})
-  at = (vptr b o ∷ [], (asked ∷ [], tt))
+    abbrev at : List Val × (List Val × Unit {0})
+    at = (vptr b o ∷ [], (asked ∷ [], tt))
 
-  abbrev Post : Val → SProp 𝓤
-  Post = walkOf 𝓤 H A offer.ended stayed (offer.clauses 𝓤 H A mem run) .post (((κ, tt), (q, tt), tt, (ref h, (request, tt)), at), tt)
+    abbrev Post : Val → SProp 𝓤
+    Post = walkOf 𝓤 H A offer.ended stayed (offer.clauses 𝓤 H A mem run) .post (((κ, tt), (q, tt), tt, (ref h, (request, tt)), at), tt)
 
-  -- what the callee's triple binds outside, and that the caller has what it asks
-  abbrev to : Callee 𝓤 H A mem run .Ghost
-  to = ((tt, tt, tt, (h, (request, tt)), (mach ∷ [], (asked ∷ [], tt))), tt)
+    -- what the callee's triple binds outside, and that the caller has what it asks
+    abbrev to : Callee .Ghost
+    to = ((tt, tt, tt, (h, (request, tt)), (mach ∷ [], (asked ∷ [], tt))), tt)
 
-  goes : ent 𝓤 (sem 𝓤 H A (T.the-row .own h (mach ∷ []))) (Callee 𝓤 H A mem run .pre to)
-  goes =
-      qed W (‵ (T.the-row .own h (mach ∷ [])) ∷ []) ∵ nothing ! $
-      owned ! Q.the-row (Is Q.the-row) (LL.makes Q.the-type Q′.the-plain 𝓤 H A) request _ request-is $ fjoin ! $ move ! (1 ∷ 0 ∷ []) $ fjoin ! $
-      nothing ! $ join ! $ nothing ! $ move ! (1 ∷ 0 ∷ []) $ done !
+    goes : ent 𝓤 (sem 𝓤 H A (T.the-row .own h (mach ∷ []))) (Callee .pre to)
+    goes =
+        qed W (‵ (T.the-row .own h (mach ∷ [])) ∷ []) ∵ nothing ! $
+        owned-data ! Q.the-type Q′.the-plain request _ request-is $ fjoin ! $ move ! (1 ∷ 0 ∷ []) $ fjoin ! $
+        nothing ! $ join ! $ nothing ! $ move ! (1 ∷ 0 ∷ []) $ done !
 
-  exits : (r : Offered) → offered r ≡ offerOf h request → Is S.the-row r (LL.vals S.the-type S′.the-laws r)
-      → ent 𝓤 (⋆ 𝓤 H A (‵ (MutRef (named 0) κ T.the-row .own (ref (r .controller)) (vptr b o ∷ [])) ∷ ‵ (flft κ q) ∷ [])) (Post (out r))
-  exits r e is =
-      qed W (‵ (MutRef (named 0) κ T.the-row .own (ref (r .controller)) (vptr b o ∷ [])) ∷ ‵ (flft κ q) ∷ []) ∵
-      suffices ! _ (ends-at 𝓤 H A offer.ended stayed (offer.clauses 𝓤 H A mem run) W (((κ, tt), (q, tt), tt, (ref h, (request, tt)), at), tt)
-      (out r) (r .answer) (r .controller, (tt, tt)) (tt, (tt, tt))) $
-      says ! e $ nothing ! $ move ! (2 ∷ 0 ∷ []) $ join ! $ frame ! $ nothing ! $
-      owned ! Q.the-row (Is Q.the-row) (LL.makes Q.the-type Q′.the-plain 𝓤 H A) request _ request-is $ fjoin ! $ move ! (1 ∷ 0 ∷ []) $ fjoin ! $
-      owned ! G.the-row (Is G.the-row) (EL.makes G.the-type G′.the-plain 𝓤 H A) (r .answer) _ (answer-is r is) $ move ! (1 ∷ 0 ∷ []) $ done !
+    exits : (r : Offered) → offered r ≡ offerOf h request → Is S.the-row r (LL.vals S.the-type S′.the-laws r)
+        → ent 𝓤 (⋆ 𝓤 H A (‵ (MutRef (named 0) κ T.the-row .own (ref (r .controller)) (vptr b o ∷ [])) ∷ ‵ (flft κ q) ∷ [])) (Post (out r))
+    exits r e is =
+        qed W (‵ (MutRef (named 0) κ T.the-row .own (ref (r .controller)) (vptr b o ∷ [])) ∷ ‵ (flft κ q) ∷ []) ∵
+        suffices ! _ (ends-at 𝓤 H A offer.ended stayed (offer.clauses 𝓤 H A mem run) W (((κ, tt), (q, tt), tt, (ref h, (request, tt)), at), tt)
+        (out r) (r .answer) (r .controller, (tt, tt)) (tt, (tt, tt))) $
+        says ! e $ nothing ! $ move ! (2 ∷ 0 ∷ []) $ join ! $ frame ! $ nothing ! $
+        owned-data ! Q.the-type Q′.the-plain request _ request-is $ fjoin ! $ move ! (1 ∷ 0 ∷ []) $ fjoin ! $
+        owned ! G.the-row (Is G.the-row) (EL.makes G.the-type G′.the-plain 𝓤 H A) (r .answer) _ (answer-is r is) $ move ! (1 ∷ 0 ∷ []) $ done !
 
-  module _ (C : Calls 𝓤 H) (Λ : Loops 𝓤 H) (fm : FmC 𝓤 H (W .laws) C) (known : Triple 𝓤 (C #callee) (Callee 𝓤 H A mem run)) where
-    walk : ent 𝓤 (onEntry 𝓤 H A offer.signature (κ, tt) (q, tt) (ref h, (request, tt)) at) (WpFn 𝓤 H C Λ code.function (vptr b o ∷ asked ∷ []) Post)
-    walk =
-        qed W ((‵ (flft κ q) ⊛ ‵ ftrue) ∷ ‵ (owns (MutRef (named 0) κ T.the-row ∷ Q.the-row ∷ []) (ref h, (request, tt)) at) ∷ []) ∵
-        split ! $ move ! (2 ∷ []) $ fsplit ! $ move ! (0 ∷ 2 ∷ []) $
-        -- [what the reference owns; the token; what the request owns; true]
-        begins ! C Λ code.function (vptr b o ∷ asked ∷ []) _ ((tt, tt), (typed W Q.the-type Q′.the-laws request request-is, tt)) (λ bs.
-        move ! (cell 0 5 ∷ cell 1 5 ∷ []) $ opened ! tt T.the-type T′.the-laws h (λ is₀.
-        -- [what the controller owns; its cell; the open borrow; obs; auth]
-        sets ! (cell 5 4) refl (of-opd ! (load ! (from ! (hop ! (look ! (cell 5 1) refl) (stop !))) (look-raw ! 1 refl))) (typed W T.the-type T′.the-laws h is₀) $
-        use1 W (raw (Callee 𝓤 H A mem run .pre to)) goes $
-        calls-at ! fm (Callee 𝓤 H A mem run) known to (and-then ! (held ! (cell 5 4) refl) (and-then ! (held ! (cell 5 2) refl) (no-more !))) (λ v.
-        told ! v S.the-type S′.the-laws (‵ ftrue) callee.ended tt (h, (request, tt)) (λ r. offered r ≡ offerOf h request) (λ r e is. drop ! $ drop ! $
-        -- [the controller's cell; the open borrow; obs; auth]
-        lands-in ! (cell 4 3) refl (typed W S.the-type S′.the-laws r is) $
-        assigns ! (of-opd ! (held-field ! (cell 4 3) refl (sub ! 1 refl (whole !)))) (from ! (hop ! (look ! (cell 4 1) refl) (stop !)))
-        (store-raw ! 0 refl (typed W T.the-type T′.the-laws (r .controller) (after-is r is))) $
-        sets ! (cell 4 0) refl (of-opd ! (held-field ! (cell 4 3) refl (sub ! 0 refl (whole !))))
-        (EL.lawful G.the-type G′.the-laws 𝓤 H A W tt .typed (r .answer) _ (answer-is r is) .0) $
-        owned ! T.the-row (Is T.the-row) (LL.makes T.the-type T′.the-plain 𝓤 H A) (r .controller) _ (after-is r is) $
-        closed ! tt T.the-type T′.the-laws (r .controller) $
-        -- [what the reference owns; the token]
-        returns ! (look ! (cell 2 0) refl) $ aside ! $ aside ! $ freed ! $ freed ! $ freed ! $ freed ! $ freed ! $ free0 ! $
-        keep ! (2 ∷ 3 ∷ []) $ by ! (exits r e is)))))
+    module _ (C : Calls 𝓤 H) (Λ : Loops 𝓤 H) (fm : FmC 𝓤 H (W .laws) C) (known : Triple 𝓤 (C #callee) Callee) where
+      walk : ent 𝓤 (onEntry 𝓤 H A offer.signature (κ, tt) (q, tt) (ref h, (request, tt)) at) (WpFn 𝓤 H C Λ code.function (vptr b o ∷ asked ∷ []) Post)
+      walk =
+          qed W ((‵ (flft κ q) ⊛ ‵ ftrue) ∷ ‵ (owns (MutRef (named 0) κ T.the-row ∷ Q.the-row ∷ []) (ref h, (request, tt)) at) ∷ []) ∵
+          split ! $ move ! (2 ∷ []) $ fsplit ! $ move ! (0 ∷ 2 ∷ []) $
+          -- [what the reference owns; the token; what the request owns; true]
+          begins ! C Λ code.function (vptr b o ∷ asked ∷ []) _ ((tt, tt), (typed W Q.the-type Q′.the-laws request request-is, tt)) (λ bs.
+          move ! (cell 0 5 ∷ cell 1 5 ∷ []) $ opened ! tt T.the-type T′.the-laws h (λ is₀.
+          -- [what the controller owns; its cell; the open borrow; obs; auth]
+          sets ! (cell 5 4) refl (of-opd ! (load ! (from ! (hop ! (look ! (cell 5 1) refl) (stop !))) (look-raw ! 1 refl))) (typed W T.the-type T′.the-laws h is₀) $
+          use1 W (raw (Callee .pre to)) goes $
+          calls-at ! fm Callee known to (and-then ! (held ! (cell 5 4) refl) (and-then ! (held ! (cell 5 2) refl) (no-more !))) (λ v.
+          told ! v S.the-type S′.the-laws (‵ ftrue) callee.ended tt (h, (request, tt)) (λ r. offered r ≡ offerOf h request) (λ r e is. drop ! $ drop ! $
+          -- [the controller's cell; the open borrow; obs; auth]
+          lands-in ! (cell 4 3) refl (typed W S.the-type S′.the-laws r is) $
+          assigns ! (of-opd ! (held-field ! (cell 4 3) refl (sub ! 1 refl (whole !)))) (from ! (hop ! (look ! (cell 4 1) refl) (stop !)))
+          (store-raw ! 0 refl (typed W T.the-type T′.the-laws (r .controller) (after-is r is))) $
+          sets ! (cell 4 0) refl (of-opd ! (held-field ! (cell 4 3) refl (sub ! 0 refl (whole !))))
+          (EL.lawful G.the-type G′.the-laws 𝓤 H A W tt .typed (r .answer) _ (answer-is r is) .0) $
+          owned-data ! T.the-type T′.the-plain (r .controller) _ (after-is r is) $
+          closed ! tt T.the-type T′.the-laws (r .controller) $
+          -- [what the reference owns; the token]
+          returns ! (look ! (cell 2 0) refl) $ aside ! $ aside ! $ freed ! $ freed ! $ freed ! $ freed ! $ freed ! $ free0 ! $
+          keep ! (2 ∷ 3 ∷ []) $ by ! (exits r e is)))))
 
 pub offer-spec : {M : Type 1} → stated.statement M
 unfolding code.routine
@@ -151,4 +152,4 @@ offer-spec 𝓤 H 𝓜 𝓖 𝓡 =
     (offer.clauses 𝓤 H (𝓖 .A) (𝓜 .mem) (𝓡 .run)) #offer code.function (code.unfolded 𝓤 H 𝓜 𝓡)
     (λ κs. (ptr-vals, (LL.vals Q.the-type Q′.the-laws, tt))) (λ κs. (mut-tells (named 0) (κs .0) T.the-row, (LL.tells Q.the-type Q′.the-laws, tt)))
     (λ fm κs qs bounds a g are.
-    walk 𝓤 H (𝓖 .A) W (𝓜 .mem) (𝓡 .run) (κs .0) (qs .0) (a .0 .ptr .0) (a .0 .ptr .1) (a .0 .name) (a .0 .now) (a .1 .0) (are .1 .0) _ _ fm known)
+    walk 𝓤 H (𝓖 .A) (𝓜 .mem) (𝓡 .run) W (κs .0) (qs .0) (a .0 .ptr .0) (a .0 .ptr .1) (a .0 .name) (a .0 .now) (a .1 .0) (are .1 .0) _ _ fm known)

@@ -1,5 +1,6 @@
 -- `tick_through` meets its contract: a walk of its MIR, by hand. The controller's local is lent to `tick` and comes back (`Lending`).
 -- All that the proof knows of `tick` is that it meets its contract. Assumes nothing.
+-- The locals of its MIR: _0 the result, _1 the controller passed, _2 controller, _3 given, _4 the borrow of _2, _5 the controller left.
 use mathlib.Core.Path.{_≡_, refl}
 use Prim.Native.Nat.{ℕ}
 use mathlib.Core.List.{[], _∷_}
@@ -19,7 +20,7 @@ use types.Run.{look, stop, from, addr, of-opd, and-then, no-more, returns, free0
 use types.Part.{agg, whole, sub}
 use sound.WpLaws.{FmC}
 use denote.Laws.{Is}
-use denote.Steps.{owned, nothing}
+use denote.Steps.{nothing}
 use denote.Struct.Laws as LL
 use denote.Triple.Statement.{Contract, Triple}
 use denote.Triple.Call.{calls-at}
@@ -37,7 +38,7 @@ use Rattle.controller.proofs.Ticked as S
 use Rattle.controller.proofs.Ticked.Laws as S′
 use Rattle.borrowed.specs.declared.calls.Given as answers
 use Rattle.borrowed.proofs.Locals.{cell, begins, freed, held, held-field, sets, lands-in}
-use Rattle.borrowed.proofs.Behind.{read, typed, reached}
+use Rattle.borrowed.proofs.Behind.{owned-data, read, typed, reached}
 use Rattle.borrowed.proofs.Lending.{Ref, unbounded, lent, returned, regained}
 use Rattle.borrowed.proofs.calls.Given as G
 use Rattle.borrowed.proofs.calls.Given.Laws as G′
@@ -64,57 +65,58 @@ given-is : (r : answers.Given) (z : Controller) → Is G.the-row r (LL.vals G.th
     → Is S.the-row (given r z) (out r z ∷ [])
 given-is r z is was = let parts = LL.owed G.the-type G′.the-laws r _ is in LL.owes S.the-type S′.the-laws (given r z) (parts .0, (parts .1 .0, (was, tt)))
 
--- the contract that the proof cites
-abbrev Callee : {M : Type 1} (𝓤 : URA M) (H : Heap 𝓤) (A : Atoms 𝓤) (mem : Memory → SProp 𝓤) (run : Routine → Fun 𝓤) → Contract 𝓤
-Callee 𝓤 H A mem run = tripleOf 𝓤 H A callee.signature (callee.spec 𝓤 H A mem run)
+module _ {M : Type 1} (𝓤 : URA M) (H : Heap 𝓤) (A : Atoms 𝓤) (mem : Memory → SProp 𝓤) (run : Routine → Fun 𝓤) where
+  -- the contract that the proof cites
+  abbrev Callee : Contract 𝓤
+  Callee = tripleOf 𝓤 H A callee.signature (callee.spec 𝓤 H A mem run)
 
-module _ {M : Type 1} (𝓤 : URA M) (H : Heap 𝓤) (A : Atoms 𝓤) (W : Given 𝓤 H A) (mem : Memory → SProp 𝓤) (run : Routine → Fun 𝓤) (h : Controller)
-    (was : Is T.the-row h (LL.vals T.the-type T′.the-laws h)) where
-  abbrev mach : Val
-  mach = LL.val T.the-type T′.the-laws h
+  module _ (W : Given 𝓤 H A) (h : Controller)
+      (was : Is T.the-row h (LL.vals T.the-type T′.the-laws h)) where
+    abbrev mach : Val
+    mach = LL.val T.the-type T′.the-laws h
 
-  abbrev Post : Val → SProp 𝓤
-  Post = walkOf 𝓤 H A through.ended stayed (through.clauses 𝓤 H A mem run) .post ((tt, tt, tt, (h, tt), (mach ∷ [], tt)), tt)
+    abbrev Post : Val → SProp 𝓤
+    Post = walkOf 𝓤 H A through.ended stayed (through.clauses 𝓤 H A mem run) .post ((tt, tt, tt, (h, tt), (mach ∷ [], tt)), tt)
 
-  exits : (r : answers.Given) (z : Controller) → ticked (given r z) ≡ tickOf h → Is S.the-row (given r z) (out r z ∷ []) → ent 𝓤 (emp 𝓤) (Post (out r z))
-  exits r z e is =
-      qed W [] ∵
-      suffices ! _ (ends-at 𝓤 H A through.ended stayed (through.clauses 𝓤 H A mem run) W ((tt, tt, tt, (h, tt), (mach ∷ [], tt)), tt)
-      (out r z) (given r z) (tt, tt) (tt, tt)) $
-      says ! e $ nothing ! $ frame ! $ nothing ! $ owned ! T.the-row (Is T.the-row) (LL.makes T.the-type T′.the-plain 𝓤 H A) h _ was $ fjoin ! $ frame ! $
-      owned ! S.the-row (Is S.the-row) (LL.makes S.the-type S′.the-plain 𝓤 H A) (given r z) _ is $ done !
+    exits : (r : answers.Given) (z : Controller) → ticked (given r z) ≡ tickOf h → Is S.the-row (given r z) (out r z ∷ []) → ent 𝓤 (emp 𝓤) (Post (out r z))
+    exits r z e is =
+        qed W [] ∵
+        suffices ! _ (ends-at 𝓤 H A through.ended stayed (through.clauses 𝓤 H A mem run) W ((tt, tt, tt, (h, tt), (mach ∷ [], tt)), tt)
+        (out r z) (given r z) (tt, tt) (tt, tt)) $
+        says ! e $ nothing ! $ frame ! $ nothing ! $ owned-data ! T.the-type T′.the-plain h _ was $ fjoin ! $ frame ! $
+        owned-data ! S.the-type S′.the-plain (given r z) _ is $ done !
 
-  module _ (l ν : ℕ) (γ : GName) where
-    -- what the callee's triple binds outside, and that the caller has what it asks
-    abbrev to : Callee 𝓤 H A mem run .Ghost
-    to = (((ν ∷ [], tt), (PosShare·left fullShare, tt), tt, (record { ptr = (l, 0); name = γ; now = h }, tt), (vptr l 0 ∷ [], tt)), tt)
+    module _ (l ν : ℕ) (γ : GName) where
+      -- what the callee's triple binds outside, and that the caller has what it asks
+      abbrev to : Callee .Ghost
+      to = (((ν ∷ [], tt), (PosShare·left fullShare, tt), tt, (record { ptr = (l, 0); name = γ; now = h }, tt), (vptr l 0 ∷ [], tt)), tt)
 
-    goes : ent 𝓤 (⋆ 𝓤 H A (‵ (Ref T.the-type [] l ν γ h) ∷ ‵ (flft (ν ∷ []) (PosShare·left fullShare)) ∷ [])) (Callee 𝓤 H A mem run .pre to)
-    goes = qed W (‵ (Ref T.the-type [] l ν γ h) ∷ ‵ (flft (ν ∷ []) (PosShare·left fullShare)) ∷ []) ∵ nothing ! $ move ! (2 ∷ 0 ∷ []) $ join ! $ nothing ! $ move ! (2 ∷ 0 ∷ []) $ fjoin ! $ move ! (1 ∷ 0 ∷ []) $ join ! $ frame ! $ done !
+      goes : ent 𝓤 (⋆ 𝓤 H A (‵ (Ref T.the-type [] l ν γ h) ∷ ‵ (flft (ν ∷ []) (PosShare·left fullShare)) ∷ [])) (Callee .pre to)
+      goes = qed W (‵ (Ref T.the-type [] l ν γ h) ∷ ‵ (flft (ν ∷ []) (PosShare·left fullShare)) ∷ []) ∵ nothing ! $ move ! (2 ∷ 0 ∷ []) $ join ! $ nothing ! $ move ! (2 ∷ 0 ∷ []) $ fjoin ! $ move ! (1 ∷ 0 ∷ []) $ join ! $ frame ! $ done !
 
-  module _ (C : Calls 𝓤 H) (Λ : Loops 𝓤 H) (fm : FmC 𝓤 H (W .laws) C) (known : Triple 𝓤 (C #callee) (Callee 𝓤 H A mem run)) where
-    walk : ent 𝓤 (onEntry 𝓤 H A through.signature tt tt (h, tt) (mach ∷ [], tt)) (WpFn 𝓤 H C Λ code.function (mach ∷ []) Post)
-    walk =
-        qed W (‵ ftrue ∷ ‵ (fsep (T.the-row .own h (mach ∷ [])) ftrue) ∷ []) ∵ keep ! [] $
-        begins ! C Λ code.function (mach ∷ []) _ (typed W T.the-type T′.the-laws h was, tt) (λ bs. let l = bs .1 .1 .0 in
-        sets ! (cell 0 2) refl (of-opd ! (held ! (cell 0 1) refl)) (typed W T.the-type T′.the-laws h was) $
-        sets ! (cell 0 4) refl (addr ! (from ! (stop !))) (tt, tt) $
-        unbounded ! tt $ owned ! T.the-row (Is T.the-row) (LL.makes T.the-type T′.the-plain 𝓤 H A) h _ was $
-        lent ! tt T.the-type [] fullShare l (cell 0 2) h mach refl (λ ν γ. use2 W (raw (Callee 𝓤 H A mem run .pre (to l ν γ))) (goes l ν γ) $
-        -- [what `tick` asks; a token]
-        calls-at ! fm (Callee 𝓤 H A mem run) known (to l ν γ) (and-then ! (held ! (cell 2 4) refl) (no-more !)) (λ v.
-        returned ! tt v G.the-row (‵ (flft (ν ∷ []) (PosShare·left fullShare)) ⊛ ‵ ftrue)
-        (λ (zs : Controller × Unit {0}). fres γ (T.the-row .coded .code (zs .0))) (λ zs. ftrue)
-        (λ r zs. ticked (given r (zs .0)) ≡ tickOf h) (λ r zs e is. read ! v G.the-type G′.the-laws r is (λ is.
-        split ! $ move ! (1 ∷ []) $ drop ! $ move ! (0 ∷ 2 ∷ 1 ∷ []) $
-        regained ! tt T.the-type [] fullShare l (cell 0 2) T′.the-laws ν γ (zs .0) refl (λ after. drop ! $ drop ! $
-        lands-in ! (cell 0 3) refl (typed W G.the-type G′.the-laws r is) $
-        sets ! (cell 0 5) refl (of-opd ! (held ! (cell 0 2) refl)) (typed W T.the-type T′.the-laws (zs .0) after) $
-        sets ! (cell 0 0) refl (agg ! (and-then ! (held-field ! (cell 0 3) refl (sub ! 0 refl (whole !)))
-        (and-then ! (held-field ! (cell 0 3) refl (sub ! 1 refl (whole !))) (and-then ! (held ! (cell 0 5) refl) (no-more !)))))
-        (typed W S.the-type S′.the-laws (given r (zs .0)) (given-is r (zs .0) is after)) $
-        returns ! (look ! (cell 0 0) refl) $ freed ! $ freed ! $ freed ! $ freed ! $ freed ! $ freed ! $ free0 ! $
-        by ! (exits r (zs .0) e (given-is r (zs .0) is after))))))))
+    module _ (C : Calls 𝓤 H) (Λ : Loops 𝓤 H) (fm : FmC 𝓤 H (W .laws) C) (known : Triple 𝓤 (C #callee) Callee) where
+      walk : ent 𝓤 (onEntry 𝓤 H A through.signature tt tt (h, tt) (mach ∷ [], tt)) (WpFn 𝓤 H C Λ code.function (mach ∷ []) Post)
+      walk =
+          qed W (‵ ftrue ∷ ‵ (fsep (T.the-row .own h (mach ∷ [])) ftrue) ∷ []) ∵ keep ! [] $
+          begins ! C Λ code.function (mach ∷ []) _ (typed W T.the-type T′.the-laws h was, tt) (λ bs. let l = bs .1 .1 .0 in
+          sets ! (cell 0 2) refl (of-opd ! (held ! (cell 0 1) refl)) (typed W T.the-type T′.the-laws h was) $
+          sets ! (cell 0 4) refl (addr ! (from ! (stop !))) (tt, tt) $
+          unbounded ! tt $ owned-data ! T.the-type T′.the-plain h _ was $
+          lent ! tt T.the-type [] fullShare l (cell 0 2) h mach refl (λ ν γ. use2 W (raw (Callee .pre (to l ν γ))) (goes l ν γ) $
+          -- [what `tick` asks; a token]
+          calls-at ! fm Callee known (to l ν γ) (and-then ! (held ! (cell 2 4) refl) (no-more !)) (λ v.
+          returned ! tt v G.the-row (‵ (flft (ν ∷ []) (PosShare·left fullShare)) ⊛ ‵ ftrue)
+          (λ (zs : Controller × Unit {0}). fres γ (T.the-row .coded .code (zs .0))) (λ zs. ftrue)
+          (λ r zs. ticked (given r (zs .0)) ≡ tickOf h) (λ r zs e is. read ! v G.the-type G′.the-laws r is (λ is.
+          split ! $ move ! (1 ∷ []) $ drop ! $ move ! (0 ∷ 2 ∷ 1 ∷ []) $
+          regained ! tt T.the-type [] fullShare l (cell 0 2) T′.the-laws ν γ (zs .0) refl (λ after. drop ! $ drop ! $
+          lands-in ! (cell 0 3) refl (typed W G.the-type G′.the-laws r is) $
+          sets ! (cell 0 5) refl (of-opd ! (held ! (cell 0 2) refl)) (typed W T.the-type T′.the-laws (zs .0) after) $
+          sets ! (cell 0 0) refl (agg ! (and-then ! (held-field ! (cell 0 3) refl (sub ! 0 refl (whole !)))
+          (and-then ! (held-field ! (cell 0 3) refl (sub ! 1 refl (whole !))) (and-then ! (held ! (cell 0 5) refl) (no-more !)))))
+          (typed W S.the-type S′.the-laws (given r (zs .0)) (given-is r (zs .0) is after)) $
+          returns ! (look ! (cell 0 0) refl) $ freed ! $ freed ! $ freed ! $ freed ! $ freed ! $ freed ! $ free0 ! $
+          by ! (exits r (zs .0) e (given-is r (zs .0) is after))))))))
 
 pub tick-through-spec : {M : Type 1} → stated.statement M
 unfolding code.routine
@@ -125,4 +127,4 @@ tick-through-spec 𝓤 H 𝓜 𝓖 𝓡 =
     reached 𝓤 H 𝓜 𝓖 𝓡 through.ended code.env stayed (goes-none 𝓤 H (𝓖 .A) W 0 (λ _. T.the-row) yes (λ κs x f. refl), tt)
     (through.clauses 𝓤 H (𝓖 .A) (𝓜 .mem) (𝓡 .run)) #through code.function (code.unfolded 𝓤 H 𝓜 𝓡)
     (λ κs. (LL.vals T.the-type T′.the-laws, tt)) (λ κs. (LL.tells T.the-type T′.the-laws, tt))
-    (λ fm κs qs bounds a g are. walk 𝓤 H (𝓖 .A) W (𝓜 .mem) (𝓡 .run) (a .0) (are .0) _ _ fm known)
+    (λ fm κs qs bounds a g are. walk 𝓤 H (𝓖 .A) (𝓜 .mem) (𝓡 .run) W (a .0) (are .0) _ _ fm known)
