@@ -26,7 +26,8 @@ use ghost.Atoms.{Atoms, sem}
 use contract.Lifetimes.{Lfts, Shares, AllOutlive}
 use contract.Monad.{fact}
 use contract.Running.{GhostRules, Running, givenOf, tables, tablesOf}
-use types.Kit.{Given, Item, ‵, raw, _⊛_, some, later, mean, Goal, lands, Soaks, Post, Seq, Step, step, _$_, move, drop, use1, split, pick, rewrite, regoal, fsplit3}
+use types.Kit.{Given, Item, ‵, raw, _⊛_, some, later, mean, Goal, lands, Soaks, Post, Seq, Step, step, _$_, move, drop, use1, split, pick}
+use types.Kit.{rewrite, regoal, fsplit3}
 use types.Kit.{fjoin3, feqI, await}
 use types.SemTy.{Body}
 use sound.WpLaws.{FmC, fmOf, WpFn-mono}
@@ -75,13 +76,15 @@ module _ {M : Type 1} {𝓤 : URA M} {H : Heap 𝓤} {A : Atoms 𝓤} {K : Type 
     read t v T L r is k =
         regoal t (λ (u : Val). lands C Λ E d u rest p) (ap only (LL.tells T L r (v ∷ []) is)) refl $ k (subst (Is (row T) r) (LL.tells T L r (v ∷ []) is) is)
 
-    pub told : K → {Γ : List (Item 𝓤)} (v : Val) (T : Declared) (L : LL.Laws T) (Tokens : Item 𝓤) (F : Ended) (κs : Lfts (F .signature .lifetimes)) (a : Args (F .signature) κs)
+    pub told : K → {Γ : List (Item 𝓤)} (v : Val) (T : Declared) (L : LL.Laws T) (Tokens : Item 𝓤)
+        (F : Ended) (κs : Lfts (F .signature .lifetimes)) (a : Args (F .signature) κs)
         (φ : T .D → Type 0)
         → ((r : T .D) → φ r → Is (row T) r (LL.vals T L r) → Seq K W (‵ (row T .own r (LL.vals T L r)) ∷ Tokens ∷ Γ) (lands C Λ E d (LL.val T L r) rest p))
         → Seq K W (raw (H .⇛ (ex 𝓤 (λ (r : T .D). sep 𝓤 (sep 𝓤 (mean 𝓤 H A Tokens) (sem 𝓤 H A (row T .own r (v ∷ []))))
         (ex 𝓤 (λ (ws : Lasts F κs a). sep 𝓤 (sem 𝓤 H A (lasts F κs a ws)) (fact 𝓤 (φ r))))))) ∷ Γ) (lands C Λ E d v rest p)
     told t v T L Tokens F κs a φ k =
-        use1 W (later (some (λ (r : T .D). (Tokens ⊛ ‵ (row T .own r (v ∷ []))) ⊛ some (λ (ws : Lasts F κs a). ‵ (lasts F κs a ws) ⊛ raw (fact 𝓤 (φ r)))))) (id⊢ 𝓤 _) $
+        use1 W (later (some (λ (r : T .D). (Tokens ⊛ ‵ (row T .own r (v ∷ [])))
+        ⊛ some (λ (ws : Lasts F κs a). ‵ (lasts F κs a ws) ⊛ raw (fact 𝓤 (φ r)))))) (id⊢ 𝓤 _) $
         await t tt $ pick t (λ r. split t $ move t (1 ∷ []) $ pick t (λ ws. split t $ drop t $ heard t (φ r) (λ e.
         split t $ move t (1 ∷ []) $ peeks t (row T) (Is (row T)) (shows 𝓤 H A (row T)) r (v ∷ []) (λ is.
         rewrite t 0 (λ (vs : List Val). ‵ (row T .own r vs)) (LL.tells T L r (v ∷ []) is) refl $ read t v T L r is (k r e)))))

@@ -68,28 +68,32 @@ module _ {M : Type 1} {𝓤 : URA M} {H : Heap 𝓤} {A : Atoms 𝓤} {K : Type 
       → Seq K W (raw (H .⇛ (ex 𝓤 (λ (r : R .Denot). sep 𝓤 (sep 𝓤 (mean 𝓤 H A Tokens) (sem 𝓤 H A (R .own r (v ∷ []))))
       (ex 𝓤 (λ (z : Z). sep 𝓤 (sem 𝓤 H A (fsep (Last z) (Rest z))) (fact 𝓤 (φ r z))))))) ∷ Γ) G
   returned t z v R {Z} Tokens Last Rest φ k =
-      use1 W (later (some (λ (r : R .Denot). (Tokens ⊛ ‵ (R .own r (v ∷ []))) ⊛ some (λ (z : Z). ‵ (fsep (Last z) (Rest z)) ⊛ raw (fact 𝓤 (φ r z)))))) (id⊢ 𝓤 _) $
+      use1 W (later (some (λ (r : R .Denot). (Tokens ⊛ ‵ (R .own r (v ∷ [])))
+      ⊛ some (λ (z : Z). ‵ (fsep (Last z) (Rest z)) ⊛ raw (fact 𝓤 (φ r z)))))) (id⊢ 𝓤 _) $
       await t z $ pick t (λ r. split t $ move t (1 ∷ []) $ pick t (λ z. split t $ move t (1 ∷ []) $ heard t (φ r z) (λ e.
       fsplit t $ move t (1 ∷ []) $ drop t $ move t (1 ∷ []) $ split t $ move t (1 ∷ []) $
       peeks t R (Is R) (shows 𝓤 H A R) r (v ∷ []) (λ is. drop t $ k r z e is))))
 
   module _ (t : K) (z : Soaks G) (T : Declared) (κ : Lft) (q : Share) (b n : ℕ) where
     pub lent : (h : T .D) (w : Val) → nth 𝓤 H A n Γ ≡ ‵ (cell T b w)
-        → ((ν : ℕ) (γ : GName) → Seq K W (‵ (Ref T κ b ν γ h) ∷ ‵ (flft (ν ∷ κ) (PosShare·left q)) ∷ ‵ (flft κ (PosShare·right q)) ∷ put 𝓤 H A n (Lent A q T κ b ν γ) Γ) G)
+        → ((ν : ℕ) (γ : GName) → Seq K W (‵ (Ref T κ b ν γ h) ∷ ‵ (flft (ν ∷ κ) (PosShare·left q)) ∷ ‵ (flft κ (PosShare·right q))
+        ∷ put 𝓤 H A n (Lent A q T κ b ν γ) Γ) G)
         → Seq K W (‵ (row T .own h (w ∷ [])) ∷ ‵ (flft κ q) ∷ Γ) G
     unfolding partOf
     lent h w e k =
         move t (suc (suc n) ∷ []) $ rewrite t 0 (λ (i : Item 𝓤). i) e refl $
         use1 W (‵ (cellAt fullShare (row T .mir) (w ∷ []) b 0)) (W .laws .at-raw fullShare (lone (row T .mir)) b 0 w) $ fjoin t $
         fpack t (List Val) (λ vs. fsep (cellAt fullShare (row T .mir) vs b 0) (row T .own h vs)) (w ∷ []) $ lft-new t z (λ ν. move t (1 ∷ []) $
-        use1 W (later (some (λ (γ : GName). ‵ (Ref T κ b ν γ h) ⊛ ‵ (Part T κ b ν γ)))) (lends-ref 𝓤 H A W (row T) (named 0) (ν ∷ κ) h b 0) $ await t z $ pick t (λ γ. split t $
+        use1 W (later (some (λ (γ : GName). ‵ (Ref T κ b ν γ h) ⊛ ‵ (Part T κ b ν γ)))) (lends-ref 𝓤 H A W (row T) (named 0) (ν ∷ κ) h b 0) $
+        await t z $ pick t (λ γ. split t $
         -- [the reference; the lender's part; ν's token; κ's]
         move t (2 ∷ []) $ use1 W (‵ (flft (ν ∷ []) (PosShare·left q)) ⊛ raw (Way A q ν)) (W .lfts .lft-carve ν (PosShare·left q)) $ split t $
         move t (4 ∷ []) $ use1 W (‵ (flft κ (PosShare·left q)) ⊛ ‵ (flft κ (PosShare·right q))) (W .lfts .lft-split κ q) $ split t $
         -- [κ's left; κ's right; ν's left; the way back; the reference; the lender's part]
         move t (2 ∷ 0 ∷ []) $ use2 W (‵ (flft (ν ∷ κ) (PosShare·left q))) (W .lfts .lft-meet (ν ∷ []) κ (PosShare·left q)) $
         move t (2 ∷ 4 ∷ []) $ join t $ move t (0 ∷ 3 ∷ 1 ∷ 2 ∷ []) $
-        replaced (‵ (Ref T κ b ν γ h) ∷ ‵ (flft (ν ∷ κ) (PosShare·left q)) ∷ ‵ (flft κ (PosShare·right q)) ∷ Γ) (suc (suc (suc n))) (Lent A q T κ b ν γ) $ k ν γ))
+        replaced (‵ (Ref T κ b ν γ h) ∷ ‵ (flft (ν ∷ κ) (PosShare·left q)) ∷ ‵ (flft κ (PosShare·right q)) ∷ Γ)
+        (suc (suc (suc n))) (Lent A q T κ b ν γ) $ k ν γ))
 
     pub regained : (L : LL.Laws T) (ν : ℕ) (γ : GName) (x : T .D) → nth 𝓤 H A n Γ ≡ Lent A q T κ b ν γ
         → (Is (row T) x (LL.vals T L x) → Seq K W (‵ (row T .own x (LL.vals T L x)) ∷ ‵ (flft κ q) ∷ put 𝓤 H A n (‵ (cell T b (LL.val T L x))) Γ) G)

@@ -21,7 +21,8 @@ use base.Fml.{Share, fat, froom, fdies}
 use prog.Memory.{fieldOf}
 use prog.Wp.{Heap, Env, Calls, Loops, spotOf, WpFn}
 use ghost.Atoms.{Atoms}
-use types.Kit.{Given, Item, ‵, ⋆, nth, put, mean, pop, ++⊢, ⊢++, Post, atRet, Goal, prop, runs, lands, allocs, params′, passes, frees, Seq, Step, step, _$_, _∵_, !, qed, raw, _⊛_, move, split, frame, done}
+use types.Kit.{Given, Item, ‵, ⋆, nth, put, mean, pop, ++⊢, ⊢++, Post, atRet, Goal, prop, runs, lands, allocs, params′, passes, frees, Seq}
+use types.Kit.{Step, step, _$_, _∵_, !, qed, raw, _⊛_, move, split, frame, done}
 use types.Part.{Part, look-in}
 use types.Run.{Opd, Rv, look, init, forget, stop, fld, from, load, assigns, land, enter, alloc1, alloc0, params1, pass1, pass0, free1}
 
@@ -108,7 +109,9 @@ module _ {M : Type 1} {𝓤 : URA M} {H : Heap 𝓤} {A : Atoms 𝓤} {K : Type 
 
   -- ---- the function ends
   pub aside : K → {Γ : List (Item 𝓤)} {i : Item 𝓤} {G : Goal 𝓤 H} → Step K W (Γ ++ (i ∷ [])) G (i ∷ Γ) G
-  aside t {Γ} {i} = step (λ s. record { prf = via 𝓤 _ (pop 𝓤 H A i Γ) (via 𝓤 _ (comm∗ 𝓤 (mean 𝓤 H A i) (⋆ 𝓤 H A Γ)) (via 𝓤 _ (++⊢ 𝓤 H A Γ (i ∷ [])) (s .prf))) })
+  aside t {Γ} {i} = step (λ s. record {
+    prf = via 𝓤 _ (pop 𝓤 H A i Γ) (via 𝓤 _ (comm∗ 𝓤 (mean 𝓤 H A i) (⋆ 𝓤 H A Γ)) (via 𝓤 _ (++⊢ 𝓤 H A Γ (i ∷ [])) (s .prf)));
+  })
 
   module _ {Γ : List (Item 𝓤)} {E : Env 𝓤 H} where
     pub freed : K → {τ : Ty} {b : ℕ} {v : Val} {g : Goal 𝓤 H}

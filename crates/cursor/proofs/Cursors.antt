@@ -86,7 +86,8 @@ with-checker d k = record { words = d .words; checker = k }
 pub checker-is : (κ : Lft) (d : TraceCursor) → Is (Cursor κ) d (cursorVal κ d ∷ []) → Is K.the-row (d .checker) (checkerVal (d .checker) ∷ [])
 checker-is κ d is = LL.owed (D κ) (L κ) d _ is .1 .0
 
-pub answer-is : (p : Progress) (w : Val) (k : Checker) → Is P.the-row p (w ∷ []) → Is K.the-row k (checkerVal k ∷ []) → Is N.the-row (answered p k) (movedVal w k ∷ [])
+pub answer-is : (p : Progress) (w : Val) (k : Checker) → Is P.the-row p (w ∷ [])
+    → Is K.the-row k (checkerVal k ∷ []) → Is N.the-row (answered p k) (movedVal w k ∷ [])
 answer-is p w k isp isk = ((w ∷ [], (checkerVal k ∷ [], tt)), (refl, (isp, (isk, tt))))
 
 -- ---- two parameters, words and another
@@ -127,7 +128,8 @@ module _ {M : Type 1} {𝓤 : URA M} {H : Heap 𝓤} {A : Atoms 𝓤} (W : Given
     pub kept : (R : RattleType) (x : R .Denot) (vs : List Val) → ent 𝓤 (sem 𝓤 H A (Both κ s R x vs)) (⋆ 𝓤 H A (‵ (Both κ s R x vs) ∷ ‵ (Words κ s) ∷ []))
     kept R x vs =
         qed W (‵ (Both κ s R x vs) ∷ []) ∵ fsplit ! $
-        use1 W (‵ (Words κ s) ⊛ ‵ (Words κ s)) (shr-slice-copy 𝓤 H A W (named 0) κ u32 .twice s (wordsVal s ∷ [])) $ split ! $ move ! (0 ∷ 2 ∷ []) $ fjoin ! $ done !
+        use1 W (‵ (Words κ s) ⊛ ‵ (Words κ s)) (shr-slice-copy 𝓤 H A W (named 0) κ u32 .twice s (wordsVal s ∷ [])) $ split ! $
+        move ! (0 ∷ 2 ∷ []) $ fjoin ! $ done !
 
     pub both : (c : Config) → Is F.the-row c (configVal c ∷ []) → ent 𝓤 (sem 𝓤 H A (Words κ s)) (sem 𝓤 H A (Both κ s F.the-row c (configVal c ∷ [])))
     both c is =

@@ -19,7 +19,8 @@ use ghost.Atoms.{Atoms, sem}
 use contract.Lifetimes.{AllOutlive}
 use contract.Monad.{Fun}
 use contract.Running.{givenOf}
-use types.Kit.{Given, Item, ‵, raw, _⊛_, ⋆, given, runs, atRet, Sq, _$_, _∵_, !, qed, by, move, drop, use1, use2, split, join, learn, fsplit, fjoin, suffices}
+use types.Kit.{Given, Item, ‵, raw, _⊛_, given, runs, atRet, Sq, prop, _$_, _∵_, !, qed, move, drop, use1, use2, split, join, learn}
+use types.Kit.{fsplit, fjoin, suffices}
 use types.Kit.{frame, done}
 use types.Part.{whole, sub, look-in, store-in}
 use types.Run.{look, stop, hop, fld, from, load, of-opd, and-then, no-more, assigns, returns, free0}
@@ -78,7 +79,8 @@ module _ {M : Type 1} (𝓤 : URA M) (H : Heap 𝓤) (A : Atoms 𝓤) (mem : Mem
   abbrev NextWord : Contract 𝓤
   NextWord = tripleOf 𝓤 H A next.signature (next.spec 𝓤 H A mem run)
 
-  module _ (W : Given 𝓤 H A) (κ κ′ : Lft) (q q′ : Share) (bounds : AllOutlive 2 (advance.signature .outlives) (κ, (κ′, tt))) (b o : ℕ) (γ : GName) (h : TraceCursor) where
+  module _ (W : Given 𝓤 H A) (κ κ′ : Lft) (q q′ : Share)
+      (bounds : AllOutlive 2 (advance.signature .outlives) (κ, (κ′, tt))) (b o : ℕ) (γ : GName) (h : TraceCursor) where
     -- the reference, at the cursor d
     abbrev ref : TraceCursor → RefT TraceCursor
     ref d = record { ptr = (b, o); name = γ; now = d }
@@ -114,9 +116,8 @@ module _ {M : Type 1} (𝓤 : URA M) (H : Heap 𝓤) (A : Atoms 𝓤) (mem : Mem
     to = (((κ′, tt), (q′, tt), tt, (h .words, (h .checker, tt)), (wordsVal (h .words) ∷ [], (checkerVal (h .checker) ∷ [], tt))), tt)
 
     -- what the struct owns gives what the callee asks, and is kept
-    apart : ent 𝓤 (⋆ 𝓤 H A (‵ Own ∷ Token ∷ [])) (sep 𝓤 (NextWord .pre to) (sem 𝓤 H A Own))
+    apart : Sq W (‵ Own ∷ Token ∷ []) (prop (sep 𝓤 (NextWord .pre to) (sem 𝓤 H A Own)))
     apart =
-        qed W (‵ Own ∷ Token ∷ []) ∵
         use1 W (‵ Own ⊛ ‵ Own) (LL.copy (D κ′) (T′.the-copy (α κ′)) 𝓤 H A W .twice h (cursorVal κ′ h ∷ [])) $ split ! $
         use1 W (given (cursorVal κ′ h ∷ [] ≡ cursorVal κ′ h ∷ []) (‵ (all-own (D κ′ .parts) (L κ′) vd)))
         (own-open 𝓤 H A W (D κ′) (L κ′) vd (cursorVal κ′ h)) $ learn ! (λ _.
@@ -130,9 +131,8 @@ module _ {M : Type 1} (𝓤 : URA M) (H : Heap 𝓤) (A : Atoms 𝓤) (mem : Mem
     parts m is = let owed = LL.owed N.the-type N′.the-laws m _ is in (owed .0, owed .1 .0)
 
     exits : (m : Moved) → Is P.the-row (m .progress) (pv m ∷ []) → Found m
-        → ent 𝓤 (⋆ 𝓤 H A (‵ (MutRef (named 0) κ (Cursor κ′) .own (ref (h′ m)) (vptr b o ∷ [])) ∷ ‵ (flft κ q) ∷ Token ∷ [])) (Post (pv m))
+        → Sq W (‵ (MutRef (named 0) κ (Cursor κ′) .own (ref (h′ m)) (vptr b o ∷ [])) ∷ ‵ (flft κ q) ∷ Token ∷ []) (prop (Post (pv m)))
     exits m is e =
-        qed W (‵ (MutRef (named 0) κ (Cursor κ′) .own (ref (h′ m)) (vptr b o ∷ [])) ∷ ‵ (flft κ q) ∷ Token ∷ []) ∵
         suffices ! _ (ends-at 𝓤 H A advance.ended stayed (advance.clauses 𝓤 H A mem run) W (((κ, (κ′, tt)), (q, (q′, tt)), bounds, (ref h, tt), at), tt)
         (pv m) (m .progress) (h′ m, tt) (tt, tt)) $ says ! (refl, e) $
         move ! (1 ∷ 2 ∷ []) $ join ! $ frame ! $ nothing ! $ move ! (1 ∷ 0 ∷ []) $ fjoin ! $
@@ -160,7 +160,7 @@ module _ {M : Type 1} (𝓤 : URA M) (H : Heap 𝓤) (A : Atoms 𝓤) (mem : Mem
             (changed W κ′ h (cursorVal κ′ h) (m .checker) (parts m is .1)) $ move ! (0 ∷ 1 ∷ 3 ∷ 4 ∷ 5 ∷ []) $
             closed ! tt (D κ′) (L κ′) (h′ m) $
             returns ! (look ! (cell 3 0) refl) $ aside ! $ aside ! $ aside ! $ freed ! $ freed ! $ freed ! $ freed ! $ freed ! $ free0 ! $ drop ! $
-            by ! (exits m (parts m is .0) e)
+            exits m (parts m is .0) e
 
         -- the words and the checker are read from the struct, and `next_word` is called on them
         calls : Is (Cursor κ′) h (cursorVal κ′ h ∷ [])
@@ -171,7 +171,7 @@ module _ {M : Type 1} (𝓤 : URA M) (H : Heap 𝓤) (A : Atoms 𝓤) (mem : Mem
             (tt, cursor-typed W erased κ′ h _ was .1 .0) $
             sets ! (cell 6 4) refl (of-opd ! (load ! (from ! (hop ! (look ! (cell 6 1) refl) (fld ! refl (stop !)))) (look-in ! 0 (sub ! 1 refl (whole !)))))
             (typed W K.the-type K′.the-laws (h .checker) (checker-is κ′ h was)) $
-            move ! (1 ∷ 5 ∷ []) $ use2 W (raw (NextWord .pre to) ⊛ ‵ Own) apart $ split ! $
+            move ! (1 ∷ 5 ∷ []) $ use2 W (raw (NextWord .pre to) ⊛ ‵ Own) (apart .prf) $ split ! $
             calls-at ! fm NextWord known to (and-then ! (held ! (cell 6 3) refl) (and-then ! (held ! (cell 6 4) refl) (no-more !))) (λ u.
             told ! u N.the-type N′.the-laws Token next.ended (κ′, tt) (h .words, (h .checker, tt)) Found (λ m e is. drop ! $
             lands-in ! (cell 6 2) refl (moved-typed W m _ is) $ stores m e is))

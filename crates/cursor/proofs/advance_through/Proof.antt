@@ -19,7 +19,8 @@ use ghost.Atoms.{Atoms, sem}
 use contract.BorrowLft.{meet-⊑-right}
 use contract.Monad.{Fun}
 use contract.Running.{givenOf}
-use types.Kit.{Given, Item, ‵, raw, _⊛_, ⋆, runs, atRet, Sq, _$_, _∵_, !, qed, by, move, drop, use1, use2, use3, split, join, fjoin, suffices, frame, done}
+use types.Kit.{Given, Item, ‵, raw, _⊛_, runs, atRet, Sq, prop, _$_, _∵_, !, qed, move, drop, use1, use2, use3, split, join, fjoin}
+use types.Kit.{suffices, frame, done}
 use types.Part.{agg, whole, sub, store-in}
 use types.Run.{look, stop, fld, from, addr, of-opd, and-then, no-more, assigns, returns, free0}
 use sound.WpLaws.{FmC}
@@ -48,7 +49,8 @@ use Rattle.cursor.specs.declared.TraceCursor.{TraceCursor}
 use Rattle.cursor.specs.declared.Progress.{Progress}
 use Rattle.borrowed.proofs.Locals.{Blocks, env, Content, room, holds, locals, cell, begins, aside, freed, held, held-field, sets, lands-in}
 use Rattle.borrowed.proofs.Behind.{typed, owned-data, told, reached}
-use Rattle.cursor.proofs.Cursors.{D, L, Cursor, Words, Both, kept, both, changed, wordsVal, configVal, checkerVal, cursorVal, movedVal, answered, with-checker}
+use Rattle.cursor.proofs.Cursors.{D, L, Cursor, Words, Both, kept, both, changed, wordsVal, configVal, checkerVal, cursorVal}
+use Rattle.cursor.proofs.Cursors.{movedVal, answered, with-checker}
 use Rattle.cursor.proofs.Cursors.{checker-is, answer-is, words-typed, progress-typed, moved-typed, cursor-typed}
 use Rattle.borrowed.proofs.Lending.{Ref, lent, returned, regained}
 use Rattle.cursor.proofs.TraceCursor as T
@@ -113,9 +115,8 @@ module _ {M : Type 1} (𝓤 : URA M) (H : Heap 𝓤) (A : Atoms 𝓤) (mem : Mem
         (qed W ((‵ (flft κ q) ⊛ ‵ ftrue) ∷ ‵ (Both κ s F.the-row (k .config) (configVal (k .config) ∷ [])) ∷ []) ∵ join ! $ frame ! $ done !) $ frame ! $ done !
 
     exits : (r : Progress) (w : Val) (z : Checker) → Is N.the-row (answered r z) (movedVal w z ∷ []) → MovePromised k (now s) (answered r z)
-        → ent 𝓤 (⋆ 𝓤 H A (‵ (flft κ q) ∷ ‵ Had ∷ [])) (Post (movedVal w z))
+        → Sq W (‵ (flft κ q) ∷ ‵ Had ∷ []) (prop (Post (movedVal w z)))
     exits r w z is e =
-        qed W (‵ (flft κ q) ∷ ‵ Had ∷ []) ∵
         suffices ! _ (ends-at 𝓤 H A through.ended stayed (through.clauses 𝓤 H A mem run) W (((κ, tt), (q, tt), tt, a, at), tt)
         (movedVal w z) (answered r z) (tt, (tt, tt)) (tt, (tt, tt))) $ says ! e $
         nothing ! $ move ! (1 ∷ 0 ∷ []) $ join ! $ frame ! $ owned-data ! N.the-type N′.the-plain (answered r z) _ is $ move ! (1 ∷ 0 ∷ []) $ done !
@@ -123,12 +124,21 @@ module _ {M : Type 1} (𝓤 : URA M) (H : Heap 𝓤) (A : Atoms 𝓤) (mem : Mem
     -- the call of `advance`, on the local at l
     module _ (h : TraceCursor) (l ν : ℕ) (γ : GName) where
       abbrev to-advance : Advance .Ghost
-      to-advance = (((ν ∷ κ, (κ, tt)), (PosShare·left q, (PosShare·right q, tt)), (meet-⊑-right (ν ∷ []) κ, tt), (record { ptr = (l, 0); name = γ; now = h }, tt), (vptr l 0 ∷ [], tt)), tt)
+      to-advance = (
+        (
+          (ν ∷ κ, (κ, tt)),
+          (PosShare·left q, (PosShare·right q, tt)),
+          (meet-⊑-right (ν ∷ []) κ, tt),
+          (record { ptr = (l, 0); name = γ; now = h }, tt),
+          (vptr l 0 ∷ [], tt),
+        ),
+        tt,
+      )
 
-      goes-advance : ent 𝓤 (⋆ 𝓤 H A (‵ (Ref (E κ) κ l ν γ h) ∷ ‵ (flft (ν ∷ κ) (PosShare·left q)) ∷ ‵ (flft κ (PosShare·right q)) ∷ [])) (Advance .pre to-advance)
+      goes-advance : Sq W (‵ (Ref (E κ) κ l ν γ h) ∷ ‵ (flft (ν ∷ κ) (PosShare·left q)) ∷ ‵ (flft κ (PosShare·right q)) ∷ []) (prop (Advance .pre to-advance))
       goes-advance =
-          qed W (‵ (Ref (E κ) κ l ν γ h) ∷ ‵ (flft (ν ∷ κ) (PosShare·left q)) ∷ ‵ (flft κ (PosShare·right q)) ∷ []) ∵
-          nothing ! $ move ! (3 ∷ 0 ∷ []) $ join ! $ move ! (2 ∷ 0 ∷ []) $ join ! $ nothing ! $ move ! (2 ∷ 0 ∷ []) $ fjoin ! $ move ! (1 ∷ 0 ∷ []) $ join ! $ frame ! $ done !
+          nothing ! $ move ! (3 ∷ 0 ∷ []) $ join ! $ move ! (2 ∷ 0 ∷ []) $ join ! $ nothing ! $
+          move ! (2 ∷ 0 ∷ []) $ fjoin ! $ move ! (1 ∷ 0 ∷ []) $ join ! $ frame ! $ done !
 
     -- ---- the walk, from its last step to its first
     module _ (C : Calls 𝓤 H) (Λ : Loops 𝓤 H) (fm : FmC 𝓤 H (W .laws) C)
@@ -158,7 +168,7 @@ module _ {M : Type 1} (𝓤 : URA M) (H : Heap 𝓤) (A : Atoms 𝓤) (mem : Mem
               sets ! (cell 2 0) refl (agg ! (and-then ! (held ! (cell 2 4) refl) (and-then ! (held ! (cell 2 7) refl) (no-more !))))
               (moved-typed W (answered r (z .checker)) _ moved-is) $
               returns ! (look ! (cell 2 0) refl) $ aside ! $ aside ! $ freed ! $ freed ! $ freed ! $ freed ! $ freed ! $ freed ! $ freed ! $ freed ! $ free0 ! $
-              by ! (exits r w (z .checker) moved-is (rw over at (e .1)))
+              exits r w (z .checker) moved-is (rw over at (e .1))
 
           -- the cursor is lent to `advance`, and comes back
           lends : From body.t-4 (‵ (Cursor κ .own h (cursorVal κ h ∷ [])) ∷ ‵ (flft κ q) ∷ ‵ Had ∷ [])
@@ -166,7 +176,7 @@ module _ {M : Type 1} (𝓤 : URA M) (H : Heap 𝓤) (A : Atoms 𝓤) (mem : Mem
           lends =
               sets ! (cell 3 6) refl (addr ! (from ! (stop !))) (tt, tt) $
               lent ! tt (E κ) κ q l (cell 1 3) h (cursorVal κ h) refl (λ ν γ.
-              use3 W (raw (Advance .pre (to-advance h l ν γ))) (goes-advance h l ν γ) $
+              use3 W (raw (Advance .pre (to-advance h l ν γ))) (goes-advance h l ν γ .prf) $
               calls-at ! fm Advance known-advance (to-advance h l ν γ) (and-then ! (held ! (cell 2 6) refl) (no-more !)) (λ w.
               returned ! tt w P.the-row (‵ (flft (ν ∷ κ) (PosShare·left q)) ⊛ (‵ (flft κ (PosShare·right q)) ⊛ ‵ ftrue))
               (λ (zs : TraceCursor × Unit {0}). fres γ (Cursor κ .coded .code (zs .0))) (λ zs. ftrue) (λ r zs. AdvancePromised h r (zs .0)) (λ r zs e is.
@@ -196,7 +206,8 @@ module _ {M : Type 1} (𝓤 : URA M) (H : Heap 𝓤) (A : Atoms 𝓤) (mem : Mem
           → ent 𝓤 (onEntry 𝓤 H A through.signature (κ, tt) (q, tt) a at) (WpFn 𝓤 H C Λ code.function (wordsVal s ∷ checkerVal k ∷ []) Post)
       walk words-are =
           qed W (raw (onEntry 𝓤 H A through.signature (κ, tt) (q, tt) a at) ∷ []) ∵
-          begins ! C Λ code.function (wordsVal s ∷ checkerVal k ∷ []) _ ((tt, words-typed W κ s words-are), (typed W K.the-type K′.the-laws k checker-was, tt)) (λ bs.
+          begins ! C Λ code.function (wordsVal s ∷ checkerVal k ∷ []) _
+          ((tt, words-typed W κ s words-are), (typed W K.the-type K′.the-laws k checker-was, tt)) (λ bs.
           move ! (cell 0 8 ∷ []) $ use1 W (raw (New .pre to-new) ⊛ ‵ Had) (goes-new (LL.owed K.the-type K′.the-laws k _ checker-was .0)) $ split ! $
           makes bs)
 

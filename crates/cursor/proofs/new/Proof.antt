@@ -13,10 +13,10 @@ use base.Fml.{Lft, Share, Fml, ftrue, fsep, flft}
 use prog.Memory.{Memory}
 use prog.Routine.{Routine}
 use prog.Wp.{Heap, Calls, Loops, WpFn}
-use ghost.Atoms.{Atoms, sem}
+use ghost.Atoms.{Atoms}
 use contract.Monad.{Fun}
 use contract.Running.{givenOf}
-use types.Kit.{Given, ‵, raw, _⊛_, ⋆, _$_, _∵_, !, qed, by, move, drop, use1, split, join, fjoin, suffices, frame, done}
+use types.Kit.{Given, ‵, raw, _⊛_, Sq, prop, _$_, _∵_, !, qed, by, move, drop, use1, split, join, fjoin, suffices, frame, done}
 use types.Part.{agg}
 use types.Run.{look, and-then, no-more, returns, free0}
 use sound.WpLaws.{FmC}
@@ -85,9 +85,8 @@ module _ {M : Type 1} (𝓤 : URA M) (H : Heap 𝓤) (A : Atoms 𝓤) (mem : Mem
     had k vss = fsep (ShrSlice (named 0) κ u32 .own s (vss .0)) (fsep (K.the-row .own k (vss .1 .0)) ftrue)
 
     exits : (k : Checker) → k ≡ fresh c
-        → ent 𝓤 (⋆ 𝓤 H A ((‵ (flft κ q) ⊛ ‵ ftrue) ∷ ‵ Had ∷ ‵ (K.the-row .own k (checkerVal k ∷ [])) ∷ [])) (Post (cursorVal κ (made k)))
+        → Sq W ((‵ (flft κ q) ⊛ ‵ ftrue) ∷ ‵ Had ∷ ‵ (K.the-row .own k (checkerVal k ∷ [])) ∷ []) (prop (Post (cursorVal κ (made k))))
     exits k e =
-        qed W ((‵ (flft κ q) ⊛ ‵ ftrue) ∷ ‵ Had ∷ ‵ (K.the-row .own k (checkerVal k ∷ [])) ∷ []) ∵
         suffices ! _ (ends-at 𝓤 H A new.ended stayed (new.clauses 𝓤 H A mem run) W (((κ, tt), (q, tt), tt, a, at), tt)
         (cursorVal κ (made k)) (made k) (tt, (tt, tt)) (tt, (tt, tt))) $ says ! (refl, e) $
         frame ! $ use1 W (‵ Had ⊛ ‵ (Words κ s)) (kept W κ s F.the-row c _) $ split ! $ frame ! $
@@ -99,23 +98,24 @@ module _ {M : Type 1} (𝓤 : URA M) (H : Heap 𝓤) (A : Atoms 𝓤) (mem : Mem
     abbrev to : Fresh .Ghost
     to = ((tt, tt, tt, (c, tt), (configVal c ∷ [], tt)), tt)
 
-    goes : ent 𝓤 (sem 𝓤 H A (F.the-row .own c (configVal c ∷ []))) (Fresh .pre to)
-    goes = qed W (‵ (F.the-row .own c (configVal c ∷ [])) ∷ []) ∵ nothing ! $ move ! (1 ∷ 0 ∷ []) $ join ! $ nothing ! $ join ! $ frame ! $ done !
+    goes : Sq W (‵ (F.the-row .own c (configVal c ∷ [])) ∷ []) (prop (Fresh .pre to))
+    goes = nothing ! $ move ! (1 ∷ 0 ∷ []) $ join ! $ nothing ! $ join ! $ frame ! $ done !
 
     module _ (C : Calls 𝓤 H) (Λ : Loops 𝓤 H) (fm : FmC 𝓤 H (W .laws) C) (known : Triple 𝓤 (C #fresh) Fresh) where
       walk : Is (ShrSlice (named 0) κ u32) s (wordsVal s ∷ []) → Is F.the-row c (configVal c ∷ [])
           → ent 𝓤 (onEntry 𝓤 H A new.signature (κ, tt) (q, tt) a at) (WpFn 𝓤 H C Λ code.function (wordsVal s ∷ configVal c ∷ []) Post)
       walk words-are config-is =
           qed W ((‵ (flft κ q) ⊛ ‵ ftrue) ∷ ‵ Had ∷ []) ∵
-          begins ! C Λ code.function (wordsVal s ∷ configVal c ∷ []) _ ((tt, words-typed W κ s words-are), (typed W F.the-type F′.the-laws c config-is, tt)) (λ bs.
-          owned-data ! F.the-type F′.the-plain c _ config-is $ use1 W (raw (Fresh .pre to)) goes $
+          begins ! C Λ code.function (wordsVal s ∷ configVal c ∷ []) _
+          ((tt, words-typed W κ s words-are), (typed W F.the-type F′.the-laws c config-is, tt)) (λ bs.
+          owned-data ! F.the-type F′.the-plain c _ config-is $ use1 W (raw (Fresh .pre to)) (goes .prf) $
           calls-at ! fm Fresh known to (and-then ! (held ! (cell 1 2) refl) (no-more !)) (λ u.
           told ! u K.the-type K′.the-laws (‵ ftrue) fresh-fn.ended tt (c, tt) (λ k. k ≡ fresh c) (λ k e is. move ! (1 ∷ []) $ drop ! $
           -- [what the checker owns]
           lands-in ! (cell 1 3) refl (typed W K.the-type K′.the-laws k is) $
           sets ! (cell 1 0) refl (agg ! (and-then ! (held ! (cell 1 1) refl) (and-then ! (held ! (cell 1 3) refl) (no-more !))))
           (cursor-typed W (named 0) κ (made k) _ ((wordsVal s ∷ [], (checkerVal k ∷ [], tt)), (refl, (words-are, (is, tt))))) $
-          returns ! (look ! (cell 1 0) refl) $ aside ! $ freed ! $ freed ! $ freed ! $ freed ! $ free0 ! $ by ! (exits k e))))
+          returns ! (look ! (cell 1 0) refl) $ aside ! $ freed ! $ freed ! $ freed ! $ freed ! $ free0 ! $ exits k e)))
 
 pub new-spec : {M : Type 1} → stated.statement M
 unfolding code.routine

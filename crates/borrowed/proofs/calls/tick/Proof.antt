@@ -13,10 +13,10 @@ use base.Fml.{GName, Lft, Share, ftrue, flft}
 use prog.Memory.{Memory}
 use prog.Routine.{Routine}
 use prog.Wp.{Heap, Calls, Loops, WpFn}
-use ghost.Atoms.{Atoms, sem}
+use ghost.Atoms.{Atoms}
 use contract.Monad.{Fun}
 use contract.Running.{givenOf}
-use types.Kit.{Given, ‵, raw, _⊛_, ⋆, _$_, _∵_, !, qed, by, move, keep, drop, use1, split, join, fsplit, fjoin, suffices, frame, done}
+use types.Kit.{Given, ‵, raw, _⊛_, Sq, prop, _$_, _∵_, !, qed, move, keep, drop, use1, split, join, fsplit, fjoin, suffices, frame, done}
 use types.Run.{look, look-raw, store-raw, stop, hop, from, load, of-opd, and-then, no-more, assigns, returns, free0}
 use types.Part.{agg, whole, sub}
 use sound.WpLaws.{FmC}
@@ -94,13 +94,12 @@ module _ {M : Type 1} (𝓤 : URA M) (H : Heap 𝓤) (A : Atoms 𝓤) (mem : Mem
     abbrev to : Callee .Ghost
     to = ((tt, tt, tt, (h, tt), (mach ∷ [], tt)), tt)
 
-    goes : ent 𝓤 (sem 𝓤 H A (T.the-row .own h (mach ∷ []))) (Callee .pre to)
-    goes = qed W (‵ (T.the-row .own h (mach ∷ [])) ∷ []) ∵ nothing ! $ move ! (1 ∷ 0 ∷ []) $ join ! $ nothing ! $ join ! $ frame ! $ done !
+    goes : Sq W (‵ (T.the-row .own h (mach ∷ [])) ∷ []) (prop (Callee .pre to))
+    goes = nothing ! $ move ! (1 ∷ 0 ∷ []) $ join ! $ nothing ! $ join ! $ frame ! $ done !
 
     exits : (r : Ticked) → ticked r ≡ tickOf h → Is S.the-row r (LL.vals S.the-type S′.the-laws r)
-        → ent 𝓤 (⋆ 𝓤 H A (‵ (MutRef (named 0) κ T.the-row .own (ref (r .controller)) (vptr b o ∷ [])) ∷ ‵ (flft κ q) ∷ [])) (Post (out r))
+        → Sq W (‵ (MutRef (named 0) κ T.the-row .own (ref (r .controller)) (vptr b o ∷ [])) ∷ ‵ (flft κ q) ∷ []) (prop (Post (out r)))
     exits r e is =
-        qed W (‵ (MutRef (named 0) κ T.the-row .own (ref (r .controller)) (vptr b o ∷ [])) ∷ ‵ (flft κ q) ∷ []) ∵
         suffices ! _ (ends-at 𝓤 H A tick.ended stayed (tick.clauses 𝓤 H A mem run) W (((κ, tt), (q, tt), tt, (ref h, tt), at), tt)
         (out r) (given r) (r .controller, tt) (tt, tt)) $
         says ! e $ nothing ! $ move ! (2 ∷ 0 ∷ []) $ join ! $ frame ! $ nothing ! $ move ! (1 ∷ 0 ∷ []) $ fjoin ! $
@@ -114,8 +113,9 @@ module _ {M : Type 1} (𝓤 : URA M) (H : Heap 𝓤) (A : Atoms 𝓤) (mem : Mem
           -- [what the reference owns; the token; true; true]
           begins ! C Λ code.function (vptr b o ∷ []) _ ((tt, tt), tt) (λ bs. move ! (cell 0 4 ∷ cell 1 4 ∷ []) $ opened ! tt T.the-type T′.the-laws h (λ is₀.
           -- [what the controller owns; its cell; the open borrow; obs; auth]
-          sets ! (cell 5 3) refl (of-opd ! (load ! (from ! (hop ! (look ! (cell 5 1) refl) (stop !))) (look-raw ! 1 refl))) (typed W T.the-type T′.the-laws h is₀) $
-          use1 W (raw (Callee .pre to)) goes $
+          sets ! (cell 5 3) refl (of-opd ! (load ! (from ! (hop ! (look ! (cell 5 1) refl) (stop !))) (look-raw ! 1 refl)))
+          (typed W T.the-type T′.the-laws h is₀) $
+          use1 W (raw (Callee .pre to)) (goes .prf) $
           calls-at ! fm Callee known to (and-then ! (held ! (cell 5 3) refl) (no-more !)) (λ v.
           told ! v S.the-type S′.the-laws (‵ ftrue) callee.ended tt (h, tt) (λ r. ticked r ≡ tickOf h) (λ r e is. drop ! $ drop ! $
           -- [the controller's cell; the open borrow; obs; auth]
@@ -127,7 +127,7 @@ module _ {M : Type 1} (𝓤 : URA M) (H : Heap 𝓤) (A : Atoms 𝓤) (mem : Mem
           owned-data ! T.the-type T′.the-plain (r .controller) _ (after-is r is) $
           closed ! tt T.the-type T′.the-laws (r .controller) $
           -- [what the reference owns; the token]
-          returns ! (look ! (cell 2 0) refl) $ aside ! $ aside ! $ freed ! $ freed ! $ freed ! $ freed ! $ free0 ! $ keep ! (2 ∷ 3 ∷ []) $ by ! (exits r e is)))))
+          returns ! (look ! (cell 2 0) refl) $ aside ! $ aside ! $ freed ! $ freed ! $ freed ! $ freed ! $ free0 ! $ keep ! (2 ∷ 3 ∷ []) $ exits r e is))))
 
 pub tick-spec : {M : Type 1} → stated.statement M
 unfolding code.routine
