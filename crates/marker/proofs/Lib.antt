@@ -1,3 +1,2 @@
--- Joining pieces of text, and the line of a verdict.
+-- Joining the digits of a number.
 pub mod Joined
-pub mod Verdicts

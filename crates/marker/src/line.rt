@@ -11,6 +11,19 @@ pub struct Line {
     pub len: usize,
 }
 
+// The powers of ten that a number of 32 bits can reach, down to 10.
+const POWERS: [u32; 9] = [
+    1000000000,
+    100000000,
+    10000000,
+    1000000,
+    100000,
+    10000,
+    1000,
+    100,
+    10,
+];
+
 impl Line {
     pub(crate) fn empty() -> Line
         ensures { λ r. ⌜ (text r ≡ []) × (r .len ≡ 0) ⌝ }
@@ -39,21 +52,17 @@ impl Line {
         if shown { self.push(48 + n as u8) } else { self }
     }
 
-    // A number in decimal.
+    // A number in decimal: a digit for each of these powers of ten that it reaches, and the last digit always.
     pub(crate) fn number(self, n: u32) -> Line
         requires { ⌜ self .len ≤ 30 ⌝ }
         ensures { λ r. ⌜ (text r ≡ text self ++ decimal n) × (r .len ≤ self .len + 10) ⌝ }
     {
-        self.digit(1000000000 <= n, n / 1000000000 % 10)
-            .digit(100000000 <= n, n / 100000000 % 10)
-            .digit(10000000 <= n, n / 10000000 % 10)
-            .digit(1000000 <= n, n / 1000000 % 10)
-            .digit(100000 <= n, n / 100000 % 10)
-            .digit(10000 <= n, n / 10000 % 10)
-            .digit(1000 <= n, n / 1000 % 10)
-            .digit(100 <= n, n / 100 % 10)
-            .digit(10 <= n, n / 10 % 10)
-            .push(48 + (n % 10) as u8)
+        let mut line = self;
+        for i in 0..9 {
+            let power = POWERS[i];
+            line = line.digit(power <= n, n / power % 10);
+        }
+        line.push(48 + (n % 10) as u8)
     }
 
     // A piece of text.
@@ -71,11 +80,11 @@ impl Line {
     }
 }
 
-// Writes the line to standard output.
-pub(crate) fn write(line: Line)
+// Writes the line to standard output; false where not all of it was taken.
+pub(crate) fn write(line: Line) -> bool
     requires { ⌜ line .len ≤ 40 ⌝ }
 {
     let bytes = line.bytes;
     let len = line.len;
-    io::write_all(libc::STDOUT_FILENO, &bytes[..len]);
+    io::write_all(libc::STDOUT_FILENO, &bytes[..len])
 }

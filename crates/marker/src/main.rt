@@ -10,5 +10,7 @@ fn main() {
         return;
     }
     let count = input.count;
-    line::write(mark::line_of(&buffer[..count]));
+    if !line::write(mark::line_of(&buffer[..count])) {
+        io::write_all(libc::STDERR_FILENO, b"marker: the line cannot be written\n");
+    }
 }

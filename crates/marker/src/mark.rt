@@ -7,6 +7,7 @@ ghost use mathlib.Core.Path.{_≡_};
 ghost use Prim.Native.Nat.{_≤_, _/_};
 ghost use Rattle.config.specs.Outcome.{value, refused};
 ghost use Rattle.rules.specs.Verdict.{accepted, breach};
+ghost use Rattle.protocol.specs.Steps.{verdictOutcome};
 ghost use Rattle.marker.specs.Text.{text};
 ghost use Rattle.marker.specs.Mark.{lineBy, lineOf};
 
@@ -33,6 +34,17 @@ fn refused(why: u32) -> Line
     Line::empty().piece(b"refused ").number(why).push(10)
 }
 
+// The line for a verdict on so many words.
+fn line_by(count: u32, verdict: Verdict) -> Line
+    ensures { λ r. ⌜ (text r ≡ lineBy count (verdictOutcome verdict)) × (r .len ≤ 40) ⌝ }
+{
+    match verdict {
+        Verdict::Accepted => accepted(count),
+        Verdict::InBreach(breach) => in_breach(breach.clock, breach.number),
+        Verdict::Refused(why) => refused(why.number()),
+    }
+}
+
 // The line for what was read: refused 25 for more than 65,536 bytes, otherwise the verdict on the institute's own configuration.
 pub(crate) fn line_of(bytes: &[u8]) -> Line
     ensures { λ r. ⌜ (text r ≡ lineOf (now (bytes .entry))) × (r .len ≤ 40) ⌝ }
@@ -40,9 +52,8 @@ pub(crate) fn line_of(bytes: &[u8]) -> Line
     if 65536 < bytes.len() {
         return refused(Refusal::InputSize.number());
     }
-    match bytecheck::check_bytes(Config::institute(), bytes) {
-        Verdict::Accepted => accepted((bytes.len() / 4) as u32),
-        Verdict::InBreach(breach) => in_breach(breach.clock, breach.number),
-        Verdict::Refused(why) => refused(why.number()),
-    }
+    line_by(
+        (bytes.len() / 4) as u32,
+        bytecheck::check_bytes(Config::institute(), bytes),
+    )
 }

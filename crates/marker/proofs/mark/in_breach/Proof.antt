@@ -26,10 +26,16 @@ push-requires-2 : tie.Need-push-requires-2
 push-requires-2 c κs = search needs
 
 returns : tie.Need-returns
-returns c = (
-  rw (c .push2 .ensures .0, c .before .number2 .ensures .0, c .before .before .push .ensures .0, c .before .before .before .number .ensures .0, c .before .before .before .before .piece .ensures .0, c .before .before .before .before .before .before .empty .ensures .0),
-  omega (arith, c .push2 .ensures .1, c .before .number2 .ensures .1, c .before .before .push .ensures .1, c .before .before .before .number .ensures .1, c .before .before .before .before .piece .ensures .1, c .before .before .before .before .before .before .empty .ensures .1),
-)
+returns c =
+    let empty = c .before .before .before .before .before .before .empty .ensures in
+    let word = c .before .before .before .before .piece .ensures in
+    let clock = c .before .before .before .number .ensures in
+    let blank = c .before .before .push .ensures in
+    let number = c .before .number2 .ensures in
+    let feed = c .push2 .ensures in (
+      rw (feed .0, number .0, blank .0, clock .0, word .0, empty .0),
+      omega (arith, feed .1, number .1, blank .1, clock .1, word .1, empty .1),
+    )
 
 pub in-breach-spec : {M : Type 1} → statement M
 in-breach-spec =

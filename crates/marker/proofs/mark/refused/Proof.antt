@@ -20,10 +20,12 @@ push-requires : tie.Need-push-requires
 push-requires c κs = search needs
 
 returns : tie.Need-returns
-returns c = (
-  rw (c .push .ensures .0, c .before .number .ensures .0, c .before .before .piece .ensures .0, c .before .before .before .before .empty .ensures .0),
-  omega (arith, c .push .ensures .1, c .before .number .ensures .1, c .before .before .piece .ensures .1, c .before .before .before .before .empty .ensures .1),
-)
+returns c =
+    let empty = c .before .before .before .before .empty .ensures in
+    let word = c .before .before .piece .ensures in
+    let number = c .before .number .ensures in
+    let feed = c .push .ensures in
+    (rw (feed .0, number .0, word .0, empty .0), omega (arith, feed .1, number .1, word .1, empty .1))
 
 pub refused-spec : {M : Type 1} → statement M
 refused-spec =

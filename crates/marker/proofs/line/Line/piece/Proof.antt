@@ -38,10 +38,12 @@ loop-again : tie.Need-loop-again Inv-loop μ-loop
 loop-again c =
     let l = c .before .before .before .loop in
     let p = now (c .before .before .before .before .before .args .piece) in
-    let more : take (l .i + 1) p ≡ take (l .i) p ++ (getD p (l .i) 0 ∷ []) = rw add-one (take-suc p (l .i) 0 (c .before .before .loop-test .taken)) in (
+    let old = text (c .before .before .before .before .before .args .self) in
+    let b = getD p (l .i) 0 ∷ [] in
+    let more : take (l .i + 1) p ≡ take (l .i) p ++ b = rw add-one (take-suc p (l .i) 0 (c .before .before .loop-test .taken)) in (
       search needs,
       omega (arith, c .push .ensures .1, l .inv .1),
-      rw (c .push .ensures .0, l .inv .2, more) (append-assoc (text (c .before .before .before .before .before .args .self)) (take (l .i) p) (getD p (l .i) 0 ∷ [])),
+      rw (c .push .ensures .0, l .inv .2, more) (append-assoc old (take (l .i) p) b),
     )
 
 returns : tie.Need-returns Inv-loop μ-loop
