@@ -1,4 +1,4 @@
--- Lists of calls in which each is made by value or on a borrowed controller.
+-- Lists of calls in which each is made by value or on a borrowed controller (RULES 8.8).
 use Prim.Native.Nat.{ℕ}
 use mathlib.Core.Path.{_≡_}
 use mathlib.Core.List.{List, [], _∷_, _++_, map}
@@ -15,6 +15,7 @@ use Rattle.model.specs.Demand3.{Holds}
 use Rattle.controller.specs.declared.Controller.{Controller}
 use Rattle.controller.specs.declared.CallAnswer.{CallAnswer}
 
+-- how a call is made
 pub data Form : Type 0 where
   byValue : Form
   borrowed : Form
@@ -27,10 +28,11 @@ pub record Made : Type 0 where
   pub word : ℕ
   pub after : Controller
 
--- what the contracts of the calls on a borrowed controller say: s stands behind the borrow before the call, and after it `after`
+-- what the contract of `offer` on a borrowed controller says: s stands behind the borrow before the call, and after it `after`
 abbrev pub OfferPromised : Controller → Request → CallAnswer → Controller → Type 0
 OfferPromised s q answer after = record { outcome = callOutcome answer; after = after } ≡ offerOf s q
 
+-- what that of `tick` says
 abbrev pub TickPromised : Controller → CallAnswer → ℕ → Controller → Type 0
 TickPromised s answer word after = record { outcome = callOutcome answer; word = word; after = after } ≡ tickOf s
 
@@ -41,12 +43,12 @@ Promised byValue s tick answer word after = ticked (record { answer = answer; wo
 Promised borrowed s (offer q) answer word after = OfferPromised s q answer after
 Promised borrowed s tick answer word after = TickPromised s answer word after
 
--- "Each call gets the controller that the last one handed back", or left behind the borrow.
+-- each call is made on the controller that the last one handed back, or left behind the borrow
 abbrev pub MadeFrom : Controller → List Made → Type 0
 MadeFrom s [] = Unit {0}
 MadeFrom s (m ∷ ms) = Promised (m .form) s (m .call) (m .answer) (m .word) (m .after) × MadeFrom (m .after) ms
 
--- what the calls came to, by their answers alone
+-- what one call adds, by its answer alone
 abbrev pub collected : Call → CallAnswer → ℕ → Controller → Run → Run
 collected (offer q) answer word after r =
     let a : Accepted = record { request = q; ticks = length (r .words); ahead = length (held (r .controller)) } in
@@ -54,6 +56,7 @@ collected (offer q) answer word after r =
 collected tick answer word after r =
     record { words = r .words ++ ifAccepted (callOutcome answer) word; accepted = r .accepted; controller = after }
 
+-- what a list of calls adds
 abbrev pub collectFrom : Run → List Made → Run
 collectFrom r [] = r
 collectFrom r (m ∷ ms) = collectFrom (collected (m .call) (m .answer) (m .word) (m .after) r) ms
@@ -62,6 +65,6 @@ collectFrom r (m ∷ ms) = collectFrom (collected (m .call) (m .answer) (m .word
 abbrev pub collect : Config → List Made → Run
 collect c ms = collectFrom (record { words = []; accepted = []; controller = fresh c }) ms
 
--- "so the claim of demand 3 holds for such calls too"
+-- the theorem: demand 3 holds of such lists too
 pub record EitherForm : Type 0 where
   pub holds : (c : Config) (t : Timing) → timingOf c ≡ value t → (ms : List Made) → MadeFrom (fresh c) ms → Holds t (map (λ m. m .call) ms) (collect c ms)

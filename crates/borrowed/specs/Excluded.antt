@@ -16,27 +16,33 @@ use Rattle.borrowed.specs.EitherForm.{Form, Promised}
 abbrev pub Never : Controller → Call → CallAnswer → ℕ → Controller → Type 0
 Never s x answer word after = (form : Form) → Promised form s x answer word after → ⊥
 
--- on sheet E: a fresh controller, one with sixteen waiting, and one at the last clock
+-- a fresh controller, on sheet E
 abbrev pub begun : Controller
 begun = fresh institute
 
+-- one with sixteen waiting
 abbrev pub full : Controller
 full = record { config = institute; clock = 0; opened = begun .opened; stamps = begun .stamps; waiting = replicate 16 bank0Read; count = 16 }
 
+-- one at the last clock
 abbrev pub last : Controller
 last = record { config = institute; clock = 16777216; opened = begun .opened; stamps = begun .stamps; waiting = begun .waiting; count = 0 }
 
--- Of each, whatever it answers, gives or leaves besides.
+-- the theorem: of each, whatever it answers, gives or leaves besides
 pub record Excluded : Type 0 where
-  -- an offer that leaves the controller as it was, and one that is made twice
+  -- an offer that leaves the controller as it was
   pub offer-lost : (a : CallAnswer) → Never begun (offer bank0Read) a 0 begun
+  -- one that is made twice
   pub offer-twice : (a : CallAnswer) → Never begun (offer bank0Read) a 0 (joined (joined begun bank0Read) bank0Read)
-  -- one that accepts a seventeenth request, and one that counts it
+  -- one that accepts a seventeenth request
   pub offer-seventeenth : (after : Controller) → Never full (offer bank0Read) Accepted 0 after
+  -- one that counts it
   pub offer-refused-counted : (a : CallAnswer) → Never full (offer bank0Read) a 0 (joined full bank0Read)
-  -- a tick that leaves the controller as it was, and one that is made twice
+  -- a tick that leaves the controller as it was
   pub tick-stays : (a : CallAnswer) (word : ℕ) → Never begun tick a word begun
+  -- one that is made twice
   pub tick-twice : (a : CallAnswer) (word : ℕ) → Never begun tick a word (tickOf (tickOf begun .after) .after)
-  -- one that is accepted past the last clock, and one that gives DESL there
+  -- one that is accepted past the last clock
   pub tick-past-the-limit : (word : ℕ) (after : Controller) → Never last tick Accepted word after
+  -- one that gives DESL there
   pub tick-refused-desl : (a : CallAnswer) (after : Controller) → Never last tick a 0xC0000 after

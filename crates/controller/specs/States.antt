@@ -11,6 +11,6 @@ use Rattle.controller.specs.declared.Controller.{Controller}
 abbrev pub vacant : Request
 vacant = record { write = false; bank = 0; row = 0; column = 0; lower = 0; upper = 0 }
 
--- "A fresh controller has clock 0, no open pair, nothing waiting and no event remembered."
+-- a fresh controller (RULES 8.1): clock 0, no pair open, no event, and nothing waits
 abbrev pub fresh : Config → Controller
 fresh c = record { config = c; clock = 0; opened = Nothing; stamps = never; waiting = replicate 16 vacant; count = 0 }

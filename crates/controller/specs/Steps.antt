@@ -1,4 +1,4 @@
--- What each call of a controller answers, and the state that it leaves, for every state there is.
+-- What each call of a controller answers, and the state that it leaves, for every state there is (RULES 8.2 to 8.4).
 use Prim.Native.Nat.{ℕ, _+_, _-_}
 use mathlib.Core.Bool.{Bool, true, cond, not, _&&_}
 use mathlib.Core.List.{List, [], _∷_, _++_}
@@ -30,19 +30,22 @@ abbrev pub callOutcome : CallAnswer → Outcome (Unit {0})
 callOutcome Accepted = value tt
 callOutcome (Refused r) = refused (refusalNumber r)
 
--- an offer's answer and the state that it leaves; a tick's, with the word that it gives
+-- an offer's answer, and the state that it leaves
 pub record Offer : Type 0 where
   pub outcome : Outcome (Unit {0})
   pub after : Controller
 
+-- what `Controller::offer` returns, as these two
 abbrev pub offered : Offered → Offer
 offered r = record { outcome = callOutcome (r .answer); after = r .controller }
 
+-- a tick's answer, the word that it gives, and the state that it leaves
 pub record Tick : Type 0 where
   pub outcome : Outcome (Unit {0})
   pub word : ℕ
   pub after : Controller
 
+-- what `Controller::tick` returns, as these three
 abbrev pub ticked : Ticked → Tick
 ticked r = record { outcome = callOutcome (r .answer); word = r .word; after = r .controller }
 
@@ -55,9 +58,9 @@ abbrev pub allFit : Timing → List Request → Bool
 allFit t [] = true
 allFit t (r ∷ rs) = requestFits t r && allFit t rs
 
--- "19 its clock is above 16,777,216, it remembers an event … not before its clock, more than sixteen wait, a waiting field is out of
--- range, or a controller's open read or write pair is of no waiting request." The first word of an open pair is an event too: it
--- stands one clock back, so at clock 0 no pair is open.
+-- no refusal 19 (RULES 6.19): the clock is at most 16,777,216 and every event before it, no pair is open at clock 0, at most sixteen
+-- wait, each with every field in its range, and where the oldest request's pair is open, one waits. The first word of an open pair is an
+-- event too: it stands one clock back.
 abbrev pub stateFits : Timing → Controller → Bool
 stateFits t s =
     clockFits (s .clock) 0xC0000 (s .stamps)
@@ -66,7 +69,7 @@ stateFits t s =
     && allFit t (held s)
     && not (ofOldest (s .opened) && eqb (s .count) 0)
 
--- an accepted request goes behind those that wait
+-- an accepted request goes behind those that wait (RULES 8.2)
 abbrev pub joined : Controller → Request → Controller
 joined s r =
     record {
@@ -78,7 +81,7 @@ joined s r =
       count = s .count + 1;
     }
 
--- a refused offer changes nothing
+-- a refused offer changes nothing (RULES 7.2)
 abbrev pub notOffered : Controller → ℕ → Offer
 notOffered s n = record { outcome = refused n; after = s }
 
@@ -86,7 +89,7 @@ notOffered s n = record { outcome = refused n; after = s }
 abbrev pub offerIf : Bool → ℕ → Controller → Offer → Offer
 offerIf holds n s rest = cond holds rest (notOffered s n)
 
--- "Offer …: 26 a field out of range; offer then 27 sixteen wait. Unchanged". The sheet's refusals and 19 come first.
+-- the sheet's refusals, 19, 26 for a field out of range, 27 where sixteen wait, in this order (RULES 7.1); else the request is accepted
 abbrev pub offerBy : Outcome Timing → Controller → Request → Offer
 offerBy (refused n) s r = notOffered s n
 offerBy (value t) s r =
@@ -99,7 +102,7 @@ offerBy (value t) s r =
 abbrev pub offerOf : Controller → Request → Offer
 offerOf s r = offerBy (timingOf (s .config)) s r
 
--- "A pair opens only if its two words would breach nothing"
+-- neither of the pair's words, the first at this clock, the second at the next, would breach a rule (RULES 8.4)
 abbrev pub passes : Timing → Timestamps → ℕ → Pair → Bool
 passes t s clock w = eqb (wordBreach t s clock 0xC0000 (w .first)) 0 && eqb (wordBreach t s (clock + 1) (w .first) (w .second)) 0
 
@@ -113,7 +116,7 @@ opensNext t s =
     let next = nextPair t (s .stamps) (s .clock) (s .count) in
     cond (passes t (s .stamps) (s .clock) (pairWords t next (oldestRequest s))) next Nothing
 
--- a tick with no pair open: the first word of the pair that opens, "otherwise DESL"
+-- a tick with no pair open: the first word of the pair that opens, or DESL (RULES 8.3, 8.4)
 abbrev pub starting : Timing → Controller → Tick
 starting t s =
     let next = opensNext t s in
@@ -135,7 +138,7 @@ starting t s =
 abbrev pub movedUp : ℕ → List Request → List Request
 movedUp n rs = take (n - 1) (drop 1 rs) ++ (vacant ∷ drop n rs)
 
--- one with a pair open: "the closing word". "A request waits until its closing word is out."
+-- a tick with a pair open: its closing word, with which a request leaves (RULES 8.2, case 1 of 8.3)
 abbrev pub closing : Timing → Controller → Tick
 closing t s =
     let w = pairWords t (s .opened) (oldestRequest s) in
@@ -153,7 +156,7 @@ closing t s =
           };
     }
 
--- "A tick refused by any number leaves the state unchanged and gives word 0"
+-- a refused tick changes nothing and gives word 0 (RULES 7.2)
 abbrev pub notTicked : Controller → ℕ → Tick
 notTicked s n = record { outcome = refused n; word = 0; after = s }
 
@@ -161,7 +164,7 @@ notTicked s n = record { outcome = refused n; word = 0; after = s }
 abbrev pub tickIf : Bool → ℕ → Controller → Tick → Tick
 tickIf holds n s rest = cond holds rest (notTicked s n)
 
--- "Tick: 24 as above." The sheet's refusals and 19 come first.
+-- the sheet's refusals, 19, 24 at clock 16,777,216, in this order (RULES 7.1); else the word for the clock
 abbrev pub tickBy : Outcome Timing → Controller → Tick
 tickBy (refused n) s = notTicked s n
 tickBy (value t) s =

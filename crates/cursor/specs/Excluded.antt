@@ -16,21 +16,25 @@ use Rattle.cursor.specs.declared.TraceCursor.{TraceCursor}
 abbrev pub Never : List ℕ → Progress → Checker → Type 0
 Never ws answer after = MovePromised (fresh institute) ws (record { progress = answer; checker = after }) → ⊥
 
--- a word that passes at clock 0, DESL, and one that breaches, PD low
+-- a word that passes at clock 0: DESL
 abbrev pub passing : List ℕ
 passing = 0xC0000 ∷ []
 
+-- a word that breaches there: PD low
 abbrev pub breaching : List ℕ
 breaching = 0x40000 ∷ []
 
--- Of each, whatever it answers or leaves besides.
+-- the theorem: of each, whatever it answers or leaves besides
 pub record Excluded : Type 0 where
-  -- a new walk that starts at clock 1, and one that has no words
+  -- a fresh walk that starts at clock 1
   pub new-at-clock-1 : (words : RefT (List ℕ)) (r : TraceCursor) → r .checker .clock ≡ 1 → NewPromised words institute r → ⊥
+  -- one that has no words
   pub new-without-words : (words : RefT (List ℕ)) (r : TraceCursor) → now words ≡ passing → now (r .words) ≡ [] → NewPromised words institute r → ⊥
-  -- an advance that stays at a word that passes, one that says end there, and one that goes past a breaching word
+  -- an advance that stays at a word that passes
   pub advance-stays : (p : Progress) → Never passing p (fresh institute)
+  -- one that says end there
   pub advance-ends-early : (after : Checker) → Never passing End after
+  -- one that goes past a breaching word
   pub advance-past-a-breach : (p : Progress) (after : Checker) → after .clock ≡ 1 → Never breaching p after
   -- one that gives the words of its walk up
   pub advance-words-lost : (s after : TraceCursor) (p : Progress) → now (s .words) ≡ passing → now (after .words) ≡ [] → AdvancePromised s p after → ⊥

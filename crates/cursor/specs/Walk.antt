@@ -1,4 +1,4 @@
--- What an advance of a walk does, for every state there is; and a whole walk, beside the published verdict.
+-- What an advance of a walk does, for every state there is; and a whole walk, beside the published verdict (RULES 5.5).
 use Prim.Native.Nat.{ℕ, zero, suc, _≤_, _<_}
 use mathlib.Core.Path.{_≡_}
 use mathlib.Core.Bool.{cond}
@@ -37,6 +37,7 @@ pub record Move : Type 0 where
   pub outcome : Outcome Reached
   pub after : Checker
 
+-- what `next_word` and `advance_through` return, as these two
 abbrev pub moved : Moved → Move
 moved r = record { outcome = progressOutcome (r .progress); after = r .checker }
 
@@ -50,14 +51,15 @@ ofWord (value accepted) = value passed
 ofWord (value (breach k n)) = value (breached k n)
 ofWord (refused n) = refused n
 
+-- what the step at the next word is in a walk
 abbrev pub examined : Step → Move
 examined r = record { outcome = ofWord (r .outcome); after = r .after }
 
--- "A walk with no word left says end and stays, ahead of 23 and 24": the sheet's refusals and 19 come first.
+-- with no word left: the sheet's refusals, then 19, then end, ahead of 23 and 24 (RULES 7.1)
 abbrev pub atEnd : Checker → Outcome Reached
 atEnd s = given (timingOf (s .config)) (λ _. require (clockFits (s .clock) (s .first) (s .stamps)) 19 (value ended))
 
--- "each move examines one more": the word at the clock, as a step examines it, refusals included
+-- an advance: the word at the clock is judged as a step judges it, refusals included; with no word left nothing changes
 abbrev pub moveOf : Checker → List ℕ → Move
 moveOf s ws = cond (ltb (s .clock) (length ws)) (examined (stepOf s (getD ws (s .clock) 0))) (staying s (atEnd s))
 
@@ -79,13 +81,14 @@ abbrev pub advanced : ℕ → Checker → List ℕ → Checker
 advanced zero s ws = s
 advanced (suc n) s ws = advanced n (moveOf s ws .after) ws
 
--- the first answer of n advances that is no pass
+-- an answer, or the rest if it is a pass
 abbrev pub unless : Outcome Reached → Outcome Reached → Outcome Reached
 unless (value passed) rest = rest
 unless (value (breached k n)) rest = value (breached k n)
 unless (value ended) rest = value ended
 unless (refused n) rest = refused n
 
+-- the first answer of n advances that is no pass
 abbrev pub walking : ℕ → Checker → List ℕ → Outcome Reached
 walking zero s ws = value passed
 walking (suc n) s ws = let rest = walking n (moveOf s ws .after) ws in unless (moveOf s ws .outcome) rest
@@ -100,14 +103,17 @@ pub data CheckerCall : Type 0 where
   step : ℕ → CheckerCall
   advance : List ℕ → CheckerCall
 
+-- the state after a call, whatever it answered
 abbrev pub afterCall : Checker → CheckerCall → Checker
 afterCall s (step w) = stepOf s w .after
 afterCall s (advance ws) = moveOf s ws .after
 
+-- the state after a list of calls
 abbrev pub afterCalls : Checker → List CheckerCall → Checker
 afterCalls s [] = s
 afterCalls s (x ∷ xs) = afterCalls (afterCall s x) xs
 
+-- the theorem that joins walks to the published rules
 pub record Walk : Type 0 where
   -- for every accepted configuration and every trace that the whole check takes: a fresh walk that is advanced until it does not pass, at
   -- the latest one advance after its last word, gives the published verdict
@@ -118,6 +124,6 @@ pub record Walk : Type 0 where
       → moveOf (advanced n (fresh c) ws) ws .outcome ≡ value ended
   pub only-there : (c : Config) (ws : List ℕ) (n : ℕ) → moveOf (advanced n (fresh c) ws) ws .outcome ≡ value ended
       → advanced n (fresh c) ws .clock ≡ length ws
-  -- "No state that calls make from a fresh one refuses 19."
+  -- whatever calls were made on a fresh state, on any sheet, the next one is not refused by 19 (RULES 6.19)
   pub never-19 : (c : Config) (xs : List CheckerCall) (ws : List ℕ) → moveOf (afterCalls (fresh c) xs) ws .outcome ≡ refused 19 → ⊥
   pub step-never-19 : (c : Config) (xs : List CheckerCall) (w : ℕ) → stepOf (afterCalls (fresh c) xs) w .outcome ≡ refused 19 → ⊥

@@ -1,4 +1,4 @@
-// A walk over lent words (the paper's walk): each advance examines one more.
+// A walk over lent words (RULES 5.5): an advance judges the next one.
 use config::Config;
 use config::Refusal;
 use config::TimingAnswer;

@@ -1,5 +1,4 @@
--- "The marker program reads little-endian words from standard input, uses sheet E, and prints one line: "accepted" and the word count,
--- "breach", its clock and number, or "refused" and the number, in decimal."
+-- The marker program's line (RULES 11.1).
 use Prim.Native.Nat.{ℕ, _/_}
 use mathlib.Core.List.{List, [], _∷_, _++_}
 use lib.ListN.{length}
@@ -9,17 +8,19 @@ use Rattle.config.specs.Configuration.{institute}
 use Rattle.rules.specs.Verdict.{Judgement, accepted, breach, checkBytesOf}
 use Rattle.marker.specs.Text.{decimal}
 
--- "Program: 25 more than 65,536 bytes; 29 bytes not a multiple of four."
+-- the verdict on sheet E: 25 for more than 65,536 bytes, then 29 for no multiple of four (RULES 7.1)
 abbrev pub markOf : List ℕ → Outcome Judgement
 markOf bytes = require (leb (length bytes) 65536) 25 (checkBytesOf institute bytes)
 
--- "accepted ", "breach ", "refused "
+-- `accepted` and a blank
 abbrev pub acceptedText : List ℕ
 acceptedText = 97 ∷ 99 ∷ 99 ∷ 101 ∷ 112 ∷ 116 ∷ 101 ∷ 100 ∷ 32 ∷ []
 
+-- `breach` and a blank
 abbrev pub breachText : List ℕ
 breachText = 98 ∷ 114 ∷ 101 ∷ 97 ∷ 99 ∷ 104 ∷ 32 ∷ []
 
+-- `refused` and a blank
 abbrev pub refusedText : List ℕ
 refusedText = 114 ∷ 101 ∷ 102 ∷ 117 ∷ 115 ∷ 101 ∷ 100 ∷ 32 ∷ []
 

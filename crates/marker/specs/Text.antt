@@ -15,6 +15,7 @@ abbrev pub digits : List ℕ → ℕ → List ℕ
 digits [] n = (48 + n % 10) ∷ []
 digits (p ∷ ps) n = cond (leb p n) ((48 + n / p % 10) ∷ []) [] ++ digits ps n
 
+-- the powers of ten that a number of 32 bits can have digits for, but the last
 abbrev pub powers : List ℕ
 powers = 1000000000 ∷ 100000000 ∷ 10000000 ∷ 1000000 ∷ 100000 ∷ 10000 ∷ 1000 ∷ 100 ∷ 10 ∷ []
 

@@ -1,4 +1,4 @@
--- The pairs that a controller opens: the words of each, and which comes next.
+-- The pairs that a controller opens: the words of each, and which comes next (RULES 8.3).
 use Prim.Native.Nat.{ℕ, _+_}
 use mathlib.Core.Bool.{Bool, true, false, cond, _||_}
 use lib.ListN.{getD}
@@ -20,7 +20,7 @@ pairWords t Regular request = pairOf t (RegularMode false)
 pairWords t Refresh request = pairOf t Refreshing
 pairWords t Oldest request = pairOf t (Access request)
 
--- a pair is open, and it is that of the oldest request
+-- a pair is open
 abbrev pub isOpen : OpenPair → Bool
 isOpen Nothing = false
 isOpen Extended = true
@@ -28,6 +28,7 @@ isOpen Regular = true
 isOpen Refresh = true
 isOpen Oldest = true
 
+-- the pair of the oldest request is open
 abbrev pub ofOldest : OpenPair → Bool
 ofOldest Nothing = false
 ofOldest Extended = false
@@ -35,8 +36,8 @@ ofOldest Regular = false
 ofOldest Refresh = false
 ofOldest Oldest = true
 
--- what comes next where no pair is open: "the next of extended MRS, regular MRS, REF, REF not yet done; else, from clock r + D − RC on, …
--- a refresh; else the oldest request"
+-- cases 2 to 4 of RULES 8.3, where no pair is open: the first that is missing of the start-up; a refresh, at r + D − RC or later, where r
+-- is the last REF word; the oldest request
 abbrev pub nextPair : Timing → Timestamps → ℕ → ℕ → OpenPair
 nextPair t s clock count =
     cond (eqb (s .extended) 0) Extended

@@ -20,6 +20,7 @@ pub enum OpenPair {
     Oldest,
 }
 
+// A pair is open.
 pub fn is_open(opened: OpenPair) -> bool
     ensures { λ r. ⌜ r ≡ isOpen opened ⌝ }
 {
@@ -61,7 +62,7 @@ pub fn pair_words(timing: Timing, opened: OpenPair, oldest: Request) -> Pair
     }
 }
 
-// From clock r + D - RC on a refresh is due, r the last REF word.
+// A refresh is due (case 3 of RULES 8.3): the clock is r + D - RC or later, where r is the last REF word.
 fn refresh_due(last: u32, refi: u32, clock: u32, rc: u32) -> bool
     ensures { λ r. ⌜ r ≡ leb (last + refi) (clock + rc) ⌝ }
 {
