@@ -1,8 +1,16 @@
--- An answer as one number: 0 for accepted or end, the refusal's number, or a breach as 2^40 and its clock times 64 and its number.
+-- A sheet as ten numbers, in the order of RULES 1.1; and an answer as one number: 0 for accepted or end, the refusal's number, or a breach as 2^40 and its clock times 64 and its number.
 use Prim.Native.Nat.{ℕ, _+_, _*_}
+use lib.ListN.{getD}
+use mathlib.Core.List.{List}
+use Rattle.config.specs.Configuration.{configOf}
+use Rattle.config.specs.declared.Config.{Config}
 use Rattle.config.specs.Outcome.{Outcome, value, refused}
 use Rattle.rules.specs.Verdict.{Judgement, accepted, breach}
 use Rattle.cursor.specs.Walk.{Reached, passed, breached, ended}
+
+abbrev pub sheetOf : List ℕ → Config
+sheetOf s =
+    configOf (getD s 0 0) (getD s 1 0) (getD s 2 0) (getD s 3 0) (getD s 4 0) (getD s 5 0) (getD s 6 0) (getD s 7 0) (getD s 8 0) (getD s 9 0)
 
 abbrev pub breachNumber : ℕ → ℕ → ℕ
 breachNumber clock n = 1099511627776 + clock * 64 + n

@@ -15,107 +15,52 @@ use walk::walk;
 ghost use mathlib.Core.Path.{_≡_};
 ghost use Rattle.rules.specs.Verdict.{checkOf};
 ghost use Rattle.counts.specs.Counts.{countingOf};
-ghost use Rattle.config.specs.Configuration.{configOf};
-ghost use Rattle.bulk.specs.Numbers.{checkNumber, walkNumber};
+ghost use Rattle.bulk.specs.Numbers.{sheetOf, checkNumber, walkNumber};
 ghost use Rattle.bulk.specs.Walks.{walkOf, againOf};
 ghost use Rattle.bulk.specs.Stored.{stored};
 
+// The configuration that the ten numbers of a sheet make.
+fn config_of(sheet: &[u32; 10]) -> Config
+    ensures { λ r. ⌜ r ≡ sheetOf (now (sheet .entry)) ⌝ }
+{
+    Config::from_numbers(
+        sheet[0],
+        sheet[1],
+        sheet[2],
+        sheet[3],
+        sheet[4],
+        sheet[5],
+        sheet[6],
+        sheet[7],
+        sheet[8],
+        sheet[9],
+    )
+}
+
 // The whole check.
 #[no_mangle]
-pub extern "C" fn bulk_check(
-    grade: u32,
-    cl: u32,
-    bl: u32,
-    organisation: u32,
-    period: u32,
-    rbd: u32,
-    rwd: u32,
-    wrd: u32,
-    rsc: u32,
-    refc: u32,
-    words: &[u32],
-) -> u64
-    ensures { λ r. ⌜ r ≡ checkNumber (checkOf (configOf grade cl bl organisation period rbd rwd wrd rsc refc) (now (words .entry))) ⌝ }
+pub extern "C" fn bulk_check(sheet: &[u32; 10], words: &[u32]) -> u64
+    ensures { λ r. ⌜ r ≡ checkNumber (checkOf (sheetOf (now (sheet .entry))) (now (words .entry))) ⌝ }
 {
-    let config = Config::from_numbers(
-        grade,
-        cl,
-        bl,
-        organisation,
-        period,
-        rbd,
-        rwd,
-        wrd,
-        rsc,
-        refc,
-    );
-    of_verdict(protocol::check(config, words))
+    of_verdict(protocol::check(config_of(sheet), words))
 }
 
 // A fresh walk, advanced until it does not pass: the answer that it stops with.
 #[no_mangle]
-pub extern "C" fn bulk_walk(
-    grade: u32,
-    cl: u32,
-    bl: u32,
-    organisation: u32,
-    period: u32,
-    rbd: u32,
-    rwd: u32,
-    wrd: u32,
-    rsc: u32,
-    refc: u32,
-    words: &[u32],
-) -> u64
-    ensures { λ r. ⌜ r ≡ walkNumber (walkOf (configOf grade cl bl organisation period rbd rwd wrd rsc refc) (now (words .entry)) .outcome) ⌝ }
+pub extern "C" fn bulk_walk(sheet: &[u32; 10], words: &[u32]) -> u64
+    ensures { λ r. ⌜ r ≡ walkNumber (walkOf (sheetOf (now (sheet .entry))) (now (words .entry)) .outcome) ⌝ }
 {
-    let config = Config::from_numbers(
-        grade,
-        cl,
-        bl,
-        organisation,
-        period,
-        rbd,
-        rwd,
-        wrd,
-        rsc,
-        refc,
-    );
-    let stopped = walk(config, words);
+    let stopped = walk(config_of(sheet), words);
     let progress = stopped.progress;
     of_progress(progress)
 }
 
 // The same walk, and then the answer of one advance more.
 #[no_mangle]
-pub extern "C" fn bulk_walk_again(
-    grade: u32,
-    cl: u32,
-    bl: u32,
-    organisation: u32,
-    period: u32,
-    rbd: u32,
-    rwd: u32,
-    wrd: u32,
-    rsc: u32,
-    refc: u32,
-    words: &[u32],
-) -> u64
-    ensures { λ r. ⌜ r ≡ walkNumber (againOf (configOf grade cl bl organisation period rbd rwd wrd rsc refc) (now (words .entry))) ⌝ }
+pub extern "C" fn bulk_walk_again(sheet: &[u32; 10], words: &[u32]) -> u64
+    ensures { λ r. ⌜ r ≡ walkNumber (againOf (sheetOf (now (sheet .entry))) (now (words .entry))) ⌝ }
 {
-    let config = Config::from_numbers(
-        grade,
-        cl,
-        bl,
-        organisation,
-        period,
-        rbd,
-        rwd,
-        wrd,
-        rsc,
-        refc,
-    );
-    let stopped = walk(config, words);
+    let stopped = walk(config_of(sheet), words);
     let reached = stopped.checker;
     let again = advance_through(words, reached);
     let progress = again.progress;

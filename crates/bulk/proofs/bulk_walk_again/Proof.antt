@@ -7,8 +7,8 @@ use borrow.Author.Needs.{needs}
 use Rattle.bulk.proofs.bulk_walk_again.Statement.{statement}
 use Rattle.bulk.proofs.bulk_walk_again.Tie as tie
 
-from-numbers-requires : tie.Need-from-numbers-requires
-from-numbers-requires c κs = search needs
+config-of-requires : tie.Need-config-of-requires
+config-of-requires c κs = search needs
 
 walk-requires : tie.Need-walk-requires
 walk-requires c κs = search needs
@@ -22,7 +22,7 @@ of-progress-requires c κs = search needs
 returns : tie.Need-returns
 returns c =
     let words = now (c .before .before .before .before .before .before .args .words) in
-    let stopped = rw (c .before .before .before .before .from-numbers .ensures) at (c .before .before .before .walk .ensures) in
+    let stopped = rw (c .before .before .before .before .config-of .ensures) at (c .before .before .before .walk .ensures) in
     c .of-progress .ensures
     ∙ ap (λ m. walkNumber (m .outcome)) (c .before .advance-through .ensures)
     ∙ ap (λ m. walkNumber (moveOf (m .after) words .outcome)) stopped
@@ -31,7 +31,7 @@ pub bulk-walk-again-spec : {M : Type 1} → statement M
 bulk-walk-again-spec =
     tie.close
     (tie.spec
-    from-numbers-requires
+    config-of-requires
     walk-requires
     advance-through-requires
     of-progress-requires
