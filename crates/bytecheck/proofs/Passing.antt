@@ -88,8 +88,8 @@ module _ (t : Timing) (ws : List ℕ) (p : Place) {w : ℕ} (inside : p .clock <
 
   pub access-passes : high 18 (p .first) ≡ false → Settled t (p .stamps) (p .clock)
       → Clear t (recentOf (p .stamps) (p .first)) (p .clock) (p .first) w
-      → {read write : ℕ} → read ≡ cond (rda (p .first)) (p .clock) (p .stamps .read)
-      → write ≡ cond (rda (p .first)) (p .stamps .write) (p .clock) → Passes t ws p (accessed p read write)
+      → {read write : ℕ} → read ≡ cond {A = ℕ} (rda (p .first)) (p .clock) (p .stamps .read)
+      → write ≡ cond {A = ℕ} (rda (p .first)) (p .stamps .write) (p .clock) → Passes t ws p (accessed p read write)
   access-passes opened settled clear read write =
       record {
         inside = inside;

@@ -15,6 +15,7 @@ pub(crate) struct Place {
 }
 
 impl Place {
+    // Before the first word.
     pub(crate) fn start() -> Place
         ensures { λ r. ⌜ r ≡ start ⌝ }
     {
@@ -25,6 +26,7 @@ impl Place {
         }
     }
 
+    // After the word that stands here.
     pub(crate) fn after(self, word: u32) -> Place
         requires { ⌜ self .clock < 16777216 ⌝ }
         ensures { λ r. ⌜ r ≡ next self word ⌝ }
