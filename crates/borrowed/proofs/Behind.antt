@@ -1,5 +1,6 @@
 -- What the walks of `offer` and `tick` share: a struct of plain data behind a `&mut` is copied out whole, a covered function is called on the
 -- copy, and the struct that it hands back is stored.
+--     Known     the relation of a value of such a struct to its machine value, written out
 --     opened    the `&mut` is opened: the machine value that lies there is written out, and its relation is in hand
 --     closed    it is closed at another value, whose machine value lies there; what the value owns is given up
 --     read      a call has returned a struct of plain data, whose relation is in hand: its machine value is written out
@@ -47,6 +48,9 @@ use denote.Triple.Table.{entered}
 use denote.Triple.Clauses.{Ended, Lasts, lasts, Clauses, closing}
 use denote.Triple.Walked.{Stays, AllGo, walkOf, walked, walk-meets}
 
+abbrev pub Known : (T : Declared) → LL.Laws T → T .D → Type 0
+Known T L x = Is (row T) x (LL.vals T L x)
+
 module _ {M : Type 1} {𝓤 : URA M} {H : Heap 𝓤} {A : Atoms 𝓤} {K : Type 0} {W : Given 𝓤 H A} where
   pub owned-data : K → {Γ : List (Item 𝓤)} {G : Goal 𝓤 H} (T : Declared) → Plains (fields T) → (x : T .D) (vs : List Val) → Is (row T) x vs
       → Step K W (‵ (row T .own x vs) ∷ Γ) G Γ G
@@ -54,7 +58,7 @@ module _ {M : Type 1} {𝓤 : URA M} {H : Heap 𝓤} {A : Atoms 𝓤} {K : Type 
 
   module _ {Γ : List (Item 𝓤)} {G : Goal 𝓤 H} {κ : Lft} {q : Share} {γ : GName} {b o : ℕ} where
     pub opened : K → Soaks G → (T : Declared) (L : LL.Laws T) (h : T .D)
-        → (Is (row T) h (LL.vals T L h)
+        → (Known T L h
         → Seq K W (‵ (row T .own h (LL.vals T L h)) ∷ ‵ (cellAt fullShare (row T .mir) (LL.vals T L h) b o) ∷ ‵ (fobor κ q (Body (mem (row T)) b o γ))
         ∷ ‵ (fobs γ (row T .coded .code h)) ∷ ‵ (fauth γ (row T .coded .code h)) ∷ Γ) G)
         → Seq K W (‵ (MutRef (named 0) κ (row T) .own (record { ptr = (b, o); name = γ; now = h }) (vptr b o ∷ [])) ∷ ‵ (flft κ q) ∷ Γ) G
@@ -72,14 +76,14 @@ module _ {M : Type 1} {𝓤 : URA M} {H : Heap 𝓤} {A : Atoms 𝓤} {K : Type 
 
   module _ {C : Calls 𝓤 H} {Λ : Loops 𝓤 H} {E : Env 𝓤 H} {d : Place} {rest : Code} {p : Post 𝓤 H} where
     pub read : K → {Γ : List (Item 𝓤)} (v : Val) (T : Declared) (L : LL.Laws T) (r : T .D) → Is (row T) r (v ∷ [])
-        → (Is (row T) r (LL.vals T L r) → Seq K W Γ (lands C Λ E d (LL.val T L r) rest p)) → Seq K W Γ (lands C Λ E d v rest p)
+        → (Known T L r → Seq K W Γ (lands C Λ E d (LL.val T L r) rest p)) → Seq K W Γ (lands C Λ E d v rest p)
     read t v T L r is k =
         regoal t (λ (u : Val). lands C Λ E d u rest p) (ap only (LL.tells T L r (v ∷ []) is)) refl $ k (subst (Is (row T) r) (LL.tells T L r (v ∷ []) is) is)
 
     pub told : K → {Γ : List (Item 𝓤)} (v : Val) (T : Declared) (L : LL.Laws T) (Tokens : Item 𝓤)
         (F : Ended) (κs : Lfts (F .signature .lifetimes)) (a : Args (F .signature) κs)
         (φ : T .D → Type 0)
-        → ((r : T .D) → φ r → Is (row T) r (LL.vals T L r) → Seq K W (‵ (row T .own r (LL.vals T L r)) ∷ Tokens ∷ Γ) (lands C Λ E d (LL.val T L r) rest p))
+        → ((r : T .D) → φ r → Known T L r → Seq K W (‵ (row T .own r (LL.vals T L r)) ∷ Tokens ∷ Γ) (lands C Λ E d (LL.val T L r) rest p))
         → Seq K W (raw (H .⇛ (ex 𝓤 (λ (r : T .D). sep 𝓤 (sep 𝓤 (mean 𝓤 H A Tokens) (sem 𝓤 H A (row T .own r (v ∷ []))))
         (ex 𝓤 (λ (ws : Lasts F κs a). sep 𝓤 (sem 𝓤 H A (lasts F κs a ws)) (fact 𝓤 (φ r))))))) ∷ Γ) (lands C Λ E d v rest p)
     told t v T L Tokens F κs a φ k =
@@ -90,7 +94,7 @@ module _ {M : Type 1} {𝓤 : URA M} {H : Heap 𝓤} {A : Atoms 𝓤} {K : Type 
         rewrite t 0 (λ (vs : List Val). ‵ (row T .own r vs)) (LL.tells T L r (v ∷ []) is) refl $ read t v T L r is (k r e)))))
 
 pub typed : {M : Type 1} {𝓤 : URA M} {H : Heap 𝓤} {A : Atoms 𝓤} (W : Given 𝓤 H A) (T : Declared) (L : LL.Laws T) (x : T .D)
-    → Is (row T) x (LL.vals T L x) → Holds (hasTy (lone (row T .mir)) (LL.val T L x)) × WT (LL.val T L x)
+    → Known T L x → Holds (hasTy (lone (row T .mir)) (LL.val T L x)) × WT (LL.val T L x)
 typed {𝓤 = 𝓤} {H = H} {A = A} W T L x is = LL.lawful T L 𝓤 H A W .typed x (LL.vals T L x) is .0
 
 module _ {M : Type 1} (𝓤 : URA M) (H : Heap 𝓤) (𝓜 : Model 𝓤 H) (𝓖 : GhostRules 𝓤 H) (𝓡 : Running 𝓤 H 𝓜) (T : Ended) (γ : Routines) where

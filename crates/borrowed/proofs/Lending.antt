@@ -34,6 +34,7 @@ use denote.Steps.{heard, peeks}
 use denote.Struct.Declared.{Declared, row}
 use denote.Struct.Laws as LL
 use denote.Struct.Steps.{spelt}
+use Rattle.borrowed.proofs.Behind.{Known}
 
 module _ (T : Declared) (κ : Lft) (b : ℕ) where
   abbrev pub Ref : ℕ → GName → T .D → Fml
@@ -96,7 +97,7 @@ module _ {M : Type 1} {𝓤 : URA M} {H : Heap 𝓤} {A : Atoms 𝓤} {K : Type 
         (suc (suc (suc n))) (Lent A q T κ b ν γ) $ k ν γ))
 
     pub regained : (L : LL.Laws T) (ν : ℕ) (γ : GName) (x : T .D) → nth 𝓤 H A n Γ ≡ Lent A q T κ b ν γ
-        → (Is (row T) x (LL.vals T L x) → Seq K W (‵ (row T .own x (LL.vals T L x)) ∷ ‵ (flft κ q) ∷ put 𝓤 H A n (‵ (cell T b (LL.val T L x))) Γ) G)
+        → (Known T L x → Seq K W (‵ (row T .own x (LL.vals T L x)) ∷ ‵ (flft κ q) ∷ put 𝓤 H A n (‵ (cell T b (LL.val T L x))) Γ) G)
         → Seq K W (‵ (flft (ν ∷ κ) (PosShare·left q)) ∷ ‵ (flft κ (PosShare·right q)) ∷ ‵ (fres γ (row T .coded .code x)) ∷ Γ) G
     unfolding partOf
     regained L ν γ x e k =

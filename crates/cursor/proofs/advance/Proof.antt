@@ -28,7 +28,7 @@ use types.SemTy.{Body as Opened}
 use sound.WpLaws.{FmC}
 use denote.RattleType.{owns}
 use denote.Laws.{Is}
-use denote.Memory.{mem as behind-it, cellAt}
+use denote.Memory.{mem as laid, cellAt}
 use denote.Ref.{RefT, MutRef, now, ptr-vals, mut-tells}
 use denote.Signature.{Slot, plain, namedLft}
 use denote.Steps.{owned, nothing}
@@ -48,7 +48,7 @@ use Rattle.cursor.specs.Walk.{MovePromised}
 use Rattle.cursor.specs.declared.TraceCursor.{TraceCursor}
 use Rattle.cursor.specs.declared.Moved.{Moved}
 use Rattle.borrowed.proofs.Locals.{Blocks, env, Content, room, holds, locals, cell, begins, aside, freed, held, held-field, sets, lands-in}
-use Rattle.borrowed.proofs.Behind.{typed, opened, closed, told, reached}
+use Rattle.borrowed.proofs.Behind.{Known, typed, opened, closed, told, reached}
 use Rattle.cursor.proofs.Cursors.{α, D, L, Cursor, with-checker, changed, wordsVal, checkerVal, cursorVal}
 use Rattle.cursor.proofs.Cursors.{checker-is, progress-made, progress-typed, moved-typed, cursor-typed}
 use Rattle.cursor.proofs.TraceCursor as T
@@ -126,7 +126,7 @@ module _ {M : Type 1} (𝓤 : URA M) (H : Heap 𝓤) (A : Atoms 𝓤) (mem : Mem
         (qed W (Token ∷ ‵ (all-own (D κ′ .parts) (L κ′) vd) ∷ []) ∵ join ! $ frame ! $ done !) $ frame ! $ done !)
 
     -- what is known of the answer's parts
-    parts : (m : Moved) → Is N.the-row m (LL.vals N.the-type N′.the-laws m)
+    parts : (m : Moved) → Known N.the-type N′.the-laws m
         → Is P.the-row (m .progress) (pv m ∷ []) × Is K.the-row (m .checker) (checkerVal (m .checker) ∷ [])
     parts m is = let owed = LL.owed N.the-type N′.the-laws m _ is in (owed .0, owed .1 .0)
 
@@ -146,8 +146,8 @@ module _ {M : Type 1} (𝓤 : URA M) (H : Heap 𝓤) (A : Atoms 𝓤) (mem : Mem
         From t Δ ss = Sq W (Δ ++ (locals body.locals bs ss ++ (‵ ftrue ∷ []))) (runs C Λ (env 𝓤 H body.locals bs) t (atRet (env 𝓤 H body.locals bs) Post))
 
         -- the checker of the answer is stored in the struct, the borrow is closed, and the answer's progress is returned
-        stores : (m : Moved) → Found m → Is N.the-row m (LL.vals N.the-type N′.the-laws m)
-            → From body.t-4 (Token ∷ ‵ Own ∷ ‵ (fat fullShare (T′.mir erased) b o (cursorVal κ′ h)) ∷ ‵ (fobor κ q (Opened (behind-it (Cursor κ′)) b o γ))
+        stores : (m : Moved) → Found m → Known N.the-type N′.the-laws m
+            → From body.t-4 (Token ∷ ‵ Own ∷ ‵ (fat fullShare (T′.mir erased) b o (cursorVal κ′ h)) ∷ ‵ (fobor κ q (Opened (laid (Cursor κ′)) b o γ))
             ∷ ‵ (fobs γ (Cursor κ′ .coded .code h)) ∷ ‵ (fauth γ (Cursor κ′ .coded .code h)) ∷ [])
             (room ∷ holds (vptr b o) ∷ holds (LL.val N.the-type N′.the-laws m) ∷ holds (wordsVal (h .words)) ∷ holds (checkerVal (h .checker)) ∷ [])
         stores m e is =
@@ -164,7 +164,7 @@ module _ {M : Type 1} (𝓤 : URA M) (H : Heap 𝓤) (A : Atoms 𝓤) (mem : Mem
 
         -- the words and the checker are read from the struct, and `next_word` is called on them
         calls : Is (Cursor κ′) h (cursorVal κ′ h ∷ [])
-            → From body.t-1 (‵ (fat fullShare (T′.mir erased) b o (cursorVal κ′ h)) ∷ ‵ Own ∷ ‵ (fobor κ q (Opened (behind-it (Cursor κ′)) b o γ))
+            → From body.t-1 (‵ (fat fullShare (T′.mir erased) b o (cursorVal κ′ h)) ∷ ‵ Own ∷ ‵ (fobor κ q (Opened (laid (Cursor κ′)) b o γ))
             ∷ ‵ (fobs γ (Cursor κ′ .coded .code h)) ∷ ‵ (fauth γ (Cursor κ′ .coded .code h)) ∷ Token ∷ []) (room ∷ holds (vptr b o) ∷ [])
         calls was =
             sets ! (cell 6 3) refl (of-opd ! (load ! (from ! (hop ! (look ! (cell 6 1) refl) (fld ! refl (stop !)))) (look-in ! 0 (sub ! 0 refl (whole !)))))

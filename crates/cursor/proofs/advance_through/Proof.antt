@@ -87,8 +87,7 @@ module _ {M : Type 1} (𝓤 : URA M) (H : Heap 𝓤) (A : Atoms 𝓤) (mem : Mem
   abbrev Advance : Contract 𝓤
   Advance = tripleOf 𝓤 H A advance.signature (advance.spec 𝓤 H A mem run)
 
-  module _ (W : Given 𝓤 H A) (κ : Lft) (q : Share)
-      (s : RefT (List ℕ)) (k : Checker) where
+  module _ (W : Given 𝓤 H A) (κ : Lft) (q : Share) (s : RefT (List ℕ)) (k : Checker) where
     abbrev a : RefT (List ℕ) × (Checker × Unit {0})
     a = (s, (k, tt))
 

@@ -51,7 +51,7 @@ use Rattle.controller.proofs.Controller.offer.Symbol as callee-def
 use Rattle.controller.proofs.Controller.offer.Symbol.{name as #callee}
 use Rattle.controller.proofs.Controller.offer.Met as callee-thm
 use Rattle.borrowed.proofs.Locals.{cell, begins, aside, freed, held, held-field, sets, lands-in}
-use Rattle.borrowed.proofs.Behind.{owned-data, opened, closed, told, typed, reached}
+use Rattle.borrowed.proofs.Behind.{Known, owned-data, opened, closed, told, typed, reached}
 use Rattle.borrowed.proofs.calls.offer.Key.{name as #offer}
 use Rattle.borrowed.proofs.calls.offer as offer
 use Rattle.borrowed.proofs.calls.offer.Statement as stated
@@ -65,8 +65,8 @@ abbrev out : Offered → Val
 out r = EL.val G.the-type G′.the-laws (r .answer)
 
 -- what is known of the parts of what the call returned
-module _ (r : Offered) (is : Is S.the-row r (LL.vals S.the-type S′.the-laws r)) where
-  after-is : Is T.the-row (r .controller) (LL.vals T.the-type T′.the-laws (r .controller))
+module _ (r : Offered) (is : Known S.the-type S′.the-laws r) where
+  after-is : Known T.the-type T′.the-laws (r .controller)
   after-is = LL.owed S.the-type S′.the-laws r _ is .1 .0
 
   answer-is : Is G.the-row (r .answer) (out r ∷ [])
@@ -78,7 +78,7 @@ module _ {M : Type 1} (𝓤 : URA M) (H : Heap 𝓤) (A : Atoms 𝓤) (mem : Mem
   Callee = tripleOf 𝓤 H A callee.signature (callee.spec 𝓤 H A mem run)
 
   module _ (W : Given 𝓤 H A) (κ : Lft) (q : Share) (b o : ℕ) (γ : GName) (h : Controller) (request : Request)
-      (request-is : Is Q.the-row request (LL.vals Q.the-type Q′.the-laws request)) where
+      (request-is : Known Q.the-type Q′.the-laws request) where
     -- the reference, at the controller c
     abbrev ref : Controller → RefT Controller
     ref c = record { ptr = (b, o); name = γ; now = c }
@@ -106,7 +106,7 @@ module _ {M : Type 1} (𝓤 : URA M) (H : Heap 𝓤) (A : Atoms 𝓤) (mem : Mem
         owned-data ! Q.the-type Q′.the-plain request _ request-is $ fjoin ! $ move ! (1 ∷ 0 ∷ []) $ fjoin ! $
         nothing ! $ join ! $ nothing ! $ move ! (1 ∷ 0 ∷ []) $ done !
 
-    exits : (r : Offered) → offered r ≡ offerOf h request → Is S.the-row r (LL.vals S.the-type S′.the-laws r)
+    exits : (r : Offered) → offered r ≡ offerOf h request → Known S.the-type S′.the-laws r
         → Sq W (‵ (MutRef (named 0) κ T.the-row .own (ref (r .controller)) (vptr b o ∷ [])) ∷ ‵ (flft κ q) ∷ []) (prop (Post (out r)))
     exits r e is =
         suffices ! _ (ends-at 𝓤 H A offer.ended stayed (offer.clauses 𝓤 H A mem run) W (((κ, tt), (q, tt), tt, (ref h, (request, tt)), at), tt)

@@ -45,7 +45,7 @@ use Rattle.controller.proofs.Offered.Laws as S′
 use Rattle.controller.proofs.CallAnswer as G
 use Rattle.controller.proofs.CallAnswer.Laws as G′
 use Rattle.borrowed.proofs.Locals.{cell, begins, freed, held, sets, lands-in}
-use Rattle.borrowed.proofs.Behind.{owned-data, typed, reached}
+use Rattle.borrowed.proofs.Behind.{Known, owned-data, typed, reached}
 use Rattle.borrowed.proofs.Lending.{Ref, unbounded, lent, returned, regained}
 use Rattle.borrowed.proofs.calls.offer as callee
 use Rattle.borrowed.proofs.calls.offer.Symbol as callee-def
@@ -66,7 +66,7 @@ given r z = record { answer = r; controller = z }
 abbrev out : Val → Controller → Val
 out v z = vstruct (vcons v (vcons (LL.val T.the-type T′.the-laws z) vnil))
 
-given-is : (r : CallAnswer) (v : Val) (z : Controller) → Is G.the-row r (v ∷ []) → Is T.the-row z (LL.vals T.the-type T′.the-laws z)
+given-is : (r : CallAnswer) (v : Val) (z : Controller) → Is G.the-row r (v ∷ []) → Known T.the-type T′.the-laws z
     → Is S.the-row (given r z) (out v z ∷ [])
 given-is r v z is was = ((v ∷ [], (LL.vals T.the-type T′.the-laws z, tt)), (refl, (is, (was, tt))))
 
@@ -76,7 +76,7 @@ module _ {M : Type 1} (𝓤 : URA M) (H : Heap 𝓤) (A : Atoms 𝓤) (mem : Mem
   Callee = tripleOf 𝓤 H A callee.signature (callee.spec 𝓤 H A mem run)
 
   module _ (W : Given 𝓤 H A) (h : Controller) (request : Request)
-      (was : Is T.the-row h (LL.vals T.the-type T′.the-laws h)) (request-is : Is Q.the-row request (LL.vals Q.the-type Q′.the-laws request)) where
+      (was : Known T.the-type T′.the-laws h) (request-is : Known Q.the-type Q′.the-laws request) where
     -- the machine values of the controller and of the request
     abbrev mach : Val
     mach = LL.val T.the-type T′.the-laws h

@@ -45,7 +45,7 @@ use Rattle.controller.proofs.Controller.tick.Symbol.{name as #callee}
 use Rattle.controller.proofs.Controller.tick.Met as callee-thm
 use Rattle.borrowed.specs.declared.calls.Given as answers
 use Rattle.borrowed.proofs.Locals.{cell, begins, aside, freed, held, held-field, sets, lands-in}
-use Rattle.borrowed.proofs.Behind.{owned-data, opened, closed, told, typed, reached}
+use Rattle.borrowed.proofs.Behind.{Known, owned-data, opened, closed, told, typed, reached}
 use Rattle.borrowed.proofs.calls.Given as G
 use Rattle.borrowed.proofs.calls.Given.Laws as G′
 use Rattle.borrowed.proofs.calls.tick.Key.{name as #tick}
@@ -64,8 +64,8 @@ abbrev out : Ticked → Val
 out r = LL.val G.the-type G′.the-laws (given r)
 
 -- what is known of the parts of what the call returned
-module _ (r : Ticked) (is : Is S.the-row r (LL.vals S.the-type S′.the-laws r)) where
-  after-is : Is T.the-row (r .controller) (LL.vals T.the-type T′.the-laws (r .controller))
+module _ (r : Ticked) (is : Known S.the-type S′.the-laws r) where
+  after-is : Known T.the-type T′.the-laws (r .controller)
   after-is = LL.owed S.the-type S′.the-laws r _ is .1 .1 .0
 
   given-is : Is G.the-row (given r) (out r ∷ [])
@@ -97,7 +97,7 @@ module _ {M : Type 1} (𝓤 : URA M) (H : Heap 𝓤) (A : Atoms 𝓤) (mem : Mem
     goes : Sq W (‵ (T.the-row .own h (mach ∷ [])) ∷ []) (prop (Callee .pre to))
     goes = nothing ! $ move ! (1 ∷ 0 ∷ []) $ join ! $ nothing ! $ join ! $ frame ! $ done !
 
-    exits : (r : Ticked) → ticked r ≡ tickOf h → Is S.the-row r (LL.vals S.the-type S′.the-laws r)
+    exits : (r : Ticked) → ticked r ≡ tickOf h → Known S.the-type S′.the-laws r
         → Sq W (‵ (MutRef (named 0) κ T.the-row .own (ref (r .controller)) (vptr b o ∷ [])) ∷ ‵ (flft κ q) ∷ []) (prop (Post (out r)))
     exits r e is =
         suffices ! _ (ends-at 𝓤 H A tick.ended stayed (tick.clauses 𝓤 H A mem run) W (((κ, tt), (q, tt), tt, (ref h, tt), at), tt)

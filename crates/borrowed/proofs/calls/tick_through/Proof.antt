@@ -38,7 +38,7 @@ use Rattle.controller.proofs.Ticked as S
 use Rattle.controller.proofs.Ticked.Laws as S′
 use Rattle.borrowed.specs.declared.calls.Given as answers
 use Rattle.borrowed.proofs.Locals.{cell, begins, freed, held, held-field, sets, lands-in}
-use Rattle.borrowed.proofs.Behind.{owned-data, read, typed, reached}
+use Rattle.borrowed.proofs.Behind.{Known, owned-data, read, typed, reached}
 use Rattle.borrowed.proofs.Lending.{Ref, unbounded, lent, returned, regained}
 use Rattle.borrowed.proofs.calls.Given as G
 use Rattle.borrowed.proofs.calls.Given.Laws as G′
@@ -61,7 +61,7 @@ given r z = record { answer = r .answer; word = r .word; controller = z }
 abbrev out : answers.Given → Controller → Val
 out r z = LL.val S.the-type S′.the-laws (given r z)
 
-given-is : (r : answers.Given) (z : Controller) → Is G.the-row r (LL.vals G.the-type G′.the-laws r) → Is T.the-row z (LL.vals T.the-type T′.the-laws z)
+given-is : (r : answers.Given) (z : Controller) → Known G.the-type G′.the-laws r → Known T.the-type T′.the-laws z
     → Is S.the-row (given r z) (out r z ∷ [])
 given-is r z is was = let parts = LL.owed G.the-type G′.the-laws r _ is in LL.owes S.the-type S′.the-laws (given r z) (parts .0, (parts .1 .0, (was, tt)))
 
@@ -70,8 +70,7 @@ module _ {M : Type 1} (𝓤 : URA M) (H : Heap 𝓤) (A : Atoms 𝓤) (mem : Mem
   abbrev Callee : Contract 𝓤
   Callee = tripleOf 𝓤 H A callee.signature (callee.spec 𝓤 H A mem run)
 
-  module _ (W : Given 𝓤 H A) (h : Controller)
-      (was : Is T.the-row h (LL.vals T.the-type T′.the-laws h)) where
+  module _ (W : Given 𝓤 H A) (h : Controller) (was : Known T.the-type T′.the-laws h) where
     abbrev mach : Val
     mach = LL.val T.the-type T′.the-laws h
 
