@@ -3,60 +3,22 @@
 use reference::sheet::Sheet;
 
 /// A call that takes a sheet and a trace, and answers with one number.
-type OnSheet = unsafe extern "C" fn(
-    grade: u32,
-    cl: u32,
-    bl: u32,
-    organisation: u32,
-    period: u32,
-    rbd: u32,
-    rwd: u32,
-    wrd: u32,
-    rsc: u32,
-    refc: u32,
-    words: *const u32,
-    length: usize,
-) -> u64;
+type OnSheet = unsafe extern "C" fn(sheet: *const u32, words: *const u32, length: usize) -> u64;
 
 mod archive {
-    macro_rules! on_sheet {
-        ($($name:ident),*) => {
-            extern "C" {
-                $(pub fn $name(
-                    grade: u32,
-                    cl: u32,
-                    bl: u32,
-                    organisation: u32,
-                    period: u32,
-                    rbd: u32,
-                    rwd: u32,
-                    wrd: u32,
-                    rsc: u32,
-                    refc: u32,
-                    words: *const u32,
-                    length: usize,
-                ) -> u64;)*
-            }
-        };
-    }
-
-    on_sheet!(bulk_check, bulk_walk, bulk_walk_again);
-
     extern "C" {
+        pub fn bulk_check(sheet: *const u32, words: *const u32, length: usize) -> u64;
+        pub fn bulk_walk(sheet: *const u32, words: *const u32, length: usize) -> u64;
+        pub fn bulk_walk_again(sheet: *const u32, words: *const u32, length: usize) -> u64;
         pub fn bulk_count(words: *const u32, length: usize, counts: *mut u32, room: usize) -> u32;
     }
 }
 
 /// Makes a call on a lent trace.
 fn on_sheet(call: OnSheet, sheet: &Sheet, words: &[u32]) -> u64 {
-    let [grade, cl, bl, org, period, rbd, rwd, wrd, rsc, refc] = sheet.numbers();
-    let (start, length) = (words.as_ptr(), words.len());
-    // SAFETY: the words can be read while they are lent.
-    unsafe {
-        call(
-            grade, cl, bl, org, period, rbd, rwd, wrd, rsc, refc, start, length,
-        )
-    }
+    let numbers = sheet.numbers();
+    // SAFETY: the ten numbers and the words can be read while they are lent.
+    unsafe { call(numbers.as_ptr(), words.as_ptr(), words.len()) }
 }
 
 /// The whole check: 0 accepted, a refusal, or a breach.
