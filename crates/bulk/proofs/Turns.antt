@@ -5,7 +5,7 @@ use mathlib.Core.Bool.{true, false}
 use mathlib.Core.List.{List}
 use native.Mathlib.Omega.{arith}
 use Rattle.protocol.specs.declared.checker.Checker.{Checker}
-use Rattle.cursor.specs.Walk.{Move, moveOf}
+use Rattle.walks.specs.Walk.{Move, moveOf}
 use Rattle.bulk.specs.Walks.{isPass, walkFrom}
 
 module _ (s : Checker) (ws : List ℕ) (m : Move) (is : moveOf s ws ≡ m) where

@@ -6,7 +6,7 @@ use Rattle.config.specs.Configuration.{configOf}
 use Rattle.config.specs.declared.Config.{Config}
 use Rattle.config.specs.Outcome.{Outcome, value, refused}
 use Rattle.rules.specs.Verdict.{Judgement, accepted, breach}
-use Rattle.cursor.specs.Walk.{Reached, passed, breached, ended}
+use Rattle.walks.specs.Walk.{Reached, passed, breached, ended}
 
 abbrev pub sheetOf : List ℕ → Config
 sheetOf s =

@@ -7,7 +7,7 @@ use Rattle.config.specs.Outcome.{Outcome, value, refused}
 use Rattle.config.specs.declared.Config.{Config}
 use Rattle.protocol.specs.Steps.{fresh}
 use Rattle.protocol.specs.declared.checker.Checker.{Checker}
-use Rattle.cursor.specs.Walk.{Reached, passed, breached, ended, Move, staying, moveOf}
+use Rattle.walks.specs.Walk.{Reached, passed, breached, ended, Move, staying, moveOf}
 
 abbrev pub isPass : Outcome Reached → Bool
 isPass (value passed) = true

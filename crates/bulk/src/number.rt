@@ -1,10 +1,10 @@
 // Answers as one number.
-use cursor::Progress;
 use protocol::Breach;
 use protocol::Verdict;
+use walks::Progress;
 ghost use mathlib.Core.Path.{_≡_};
 ghost use Rattle.protocol.specs.Steps.{verdictOutcome};
-ghost use Rattle.cursor.specs.Walk.{progressOutcome};
+ghost use Rattle.walks.specs.Walk.{progressOutcome};
 ghost use Rattle.bulk.specs.Numbers.{breachNumber, checkNumber, walkNumber};
 
 fn of_breach(breach: Breach) -> u64

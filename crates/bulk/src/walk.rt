@@ -1,11 +1,11 @@
 // A walk that is advanced until it does not pass.
 use config::Config;
-use cursor::Moved;
-use cursor::Progress;
 use cursor::advance_through;
 use protocol::Checker;
+use walks::Moved;
+use walks::Progress;
 ghost use mathlib.Core.Path.{_≡_};
-ghost use Rattle.cursor.specs.Walk.{progressOutcome, moved};
+ghost use Rattle.walks.specs.Walk.{progressOutcome, moved};
 ghost use Rattle.bulk.specs.Walks.{isPass, walkFrom, walkOf};
 
 fn passes(progress: Progress) -> bool

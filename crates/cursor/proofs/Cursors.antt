@@ -38,14 +38,14 @@ use Rattle.protocol.proofs.checker.Checker as K
 use Rattle.protocol.proofs.checker.Checker.Laws as K′
 use Rattle.borrowed.proofs.Behind.{owned-data}
 use Rattle.cursor.specs.declared.TraceCursor.{TraceCursor}
-use Rattle.cursor.specs.declared.Moved.{Moved}
-use Rattle.cursor.specs.declared.Progress.{Progress}
+use Rattle.walks.specs.declared.Moved.{Moved}
+use Rattle.walks.specs.declared.Progress.{Progress}
 use Rattle.cursor.proofs.TraceCursor as T
 use Rattle.cursor.proofs.TraceCursor.Laws as T′
-use Rattle.cursor.proofs.Moved as N
-use Rattle.cursor.proofs.Moved.Laws as N′
-use Rattle.cursor.proofs.Progress as P
-use Rattle.cursor.proofs.Progress.Laws as P′
+use Rattle.walks.proofs.Moved as N
+use Rattle.walks.proofs.Moved.Laws as N′
+use Rattle.walks.proofs.Progress as P
+use Rattle.walks.proofs.Progress.Laws as P′
 
 -- ---- the types and the machine values. What the struct owns does not say its lifetime's name, so it is named as `advance` does
 abbrev pub α : Lft → NamedLft

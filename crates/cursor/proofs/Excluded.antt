@@ -5,7 +5,7 @@ use mathlib.Core.List.{List, []}
 use native.Mathlib.Omega.{arith}
 use lib.ListN.{length}
 use Rattle.config.specs.Outcome.{Outcome, value}
-use Rattle.cursor.specs.Walk.{Reached, passed, ended}
+use Rattle.walks.specs.Walk.{Reached, passed, ended}
 use Rattle.cursor.specs.Excluded.{passing, Excluded}
 
 not-ended : _≡_ {A = Outcome Reached} (value ended) (value passed) → ⊥

@@ -6,9 +6,10 @@ use denote.Ref.{RefT, now}
 use Rattle.config.specs.Configuration.{institute}
 use Rattle.protocol.specs.Steps.{fresh}
 use Rattle.protocol.specs.declared.checker.Checker.{Checker}
-use Rattle.cursor.specs.Walk.{NewPromised, MovePromised, AdvancePromised}
-use Rattle.cursor.specs.declared.Progress.{Progress}
-use Rattle.cursor.specs.declared.Progress.the-variants.{End}
+use Rattle.walks.specs.Walk.{MovePromised}
+use Rattle.cursor.specs.Cursor.{NewPromised, AdvancePromised}
+use Rattle.walks.specs.declared.Progress.{Progress}
+use Rattle.walks.specs.declared.Progress.the-variants.{End}
 use Rattle.cursor.specs.declared.TraceCursor.{TraceCursor}
 
 -- no contract lets an advance of a fresh walk over ws answer so and leave the checker `after`: not that of `advance_through`, and not that of

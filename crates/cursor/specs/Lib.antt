@@ -1,3 +1,3 @@
--- What an advance of a cursor does, and a whole walk beside the published verdict; and results that the contracts exclude.
-pub mod Walk
+-- What the calls on a cursor promise, and results that their contracts exclude.
+pub mod Cursor
 pub mod Excluded

@@ -1,83 +1,16 @@
 // A walk over lent words (RULES 5.5): an advance judges the next one.
 use config::Config;
-use config::Refusal;
-use config::TimingAnswer;
-use protocol::Breach;
 use protocol::Checker;
-use protocol::Verdict;
-use protocol::clock_fits;
-ghost use mathlib.Core.Path.{_≡_};
-ghost use Rattle.protocol.specs.Steps.{verdictOutcome};
-ghost use Rattle.cursor.specs.Walk.{progressOutcome, ofWord, atEnd, MovePromised, AdvancePromised, NewPromised};
+use walks::Moved;
+use walks::Progress;
+use walks::next_word;
+ghost use Rattle.walks.specs.Walk.{MovePromised};
+ghost use Rattle.cursor.specs.Cursor.{AdvancePromised, NewPromised};
 
 // The words stay the caller's; the clock that the walk has reached is the checker's.
 pub struct TraceCursor<'a> {
     pub words: &'a [u32],
     pub checker: Checker,
-}
-
-// What an advance comes to.
-pub enum Progress {
-    Passed,
-    InBreach(Breach),
-    Refused(Refusal),
-    End,
-}
-
-pub struct Moved {
-    pub progress: Progress,
-    pub checker: Checker,
-}
-
-// What the verdict on a single word is in a walk.
-fn of_word(verdict: Verdict) -> Progress
-    ensures { λ r. ⌜ progressOutcome r ≡ ofWord (verdictOutcome verdict) ⌝ }
-{
-    match verdict {
-        Verdict::Accepted => Progress::Passed,
-        Verdict::InBreach(breach) => Progress::InBreach(breach),
-        Verdict::Refused(why) => Progress::Refused(why),
-    }
-}
-
-// What an advance answers with no word left.
-fn at_end(checker: Checker) -> Progress
-    ensures { λ r. ⌜ progressOutcome r ≡ atEnd checker ⌝ }
-{
-    let config = checker.config;
-    let stamps = checker.stamps;
-    match config.timing() {
-        TimingAnswer::Refused(why) => Progress::Refused(why),
-        TimingAnswer::Accepted(_) => {
-            if clock_fits(checker.clock, checker.first, stamps) {
-                Progress::End
-            } else {
-                Progress::Refused(Refusal::State)
-            }
-        }
-    }
-}
-
-// Examines the word at the checker's clock: the configuration's refusals and 19, then end where no word is left, then 23 and 24. The
-// checker comes back, one clock on if the word passed.
-pub fn next_word(words: &[u32], checker: Checker) -> Moved
-    ensures { λ r. ⌜ MovePromised checker (now (words .entry)) r ⌝ }
-{
-    let at = checker.clock as usize;
-    if at < words.len() {
-        let stepped = checker.step(words[at]);
-        let verdict = stepped.verdict;
-        let after = stepped.checker;
-        Moved {
-            progress: of_word(verdict),
-            checker: after,
-        }
-    } else {
-        Moved {
-            progress: at_end(checker),
-            checker,
-        }
-    }
 }
 
 // A fresh walk over the words, on any configuration.

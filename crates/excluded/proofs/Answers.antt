@@ -24,8 +24,8 @@ use Rattle.counts.specs.declared.CommandCounts.{CommandCounts}
 use Rattle.counts.specs.declared.CountsAnswer.{CountsAnswer}
 use Rattle.controller.specs.Steps.{callOutcome}
 use Rattle.controller.specs.declared.CallAnswer.{CallAnswer}
-use Rattle.cursor.specs.Walk.{Reached, passed, breached, ended, progressOutcome}
-use Rattle.cursor.specs.declared.Progress.{Progress}
+use Rattle.walks.specs.Walk.{Reached, passed, breached, ended, progressOutcome}
+use Rattle.walks.specs.declared.Progress.{Progress}
 use Rattle.excluded.specs.Excluded.{Injective, Answers}
 
 inverted : {A B : Type 0} (f : A → B) (back : B → A) → ((x : A) → back (f x) ≡ x) → Injective f

@@ -12,8 +12,8 @@ use Rattle.config.proofs.Outcomes.{refused-value, require-value, given-value}
 use Rattle.rules.specs.Verdict.{Judgement, accepted, breach}
 use Rattle.protocol.specs.Steps.{clockFits, stepOf}
 use Rattle.protocol.specs.declared.checker.Checker.{Checker}
-use Rattle.cursor.specs.Walk.{passed, ended, progressOutcome, ofWord, atEnd}
-use Rattle.cursor.specs.declared.Progress.{Progress}
+use Rattle.walks.specs.Walk.{passed, ended, progressOutcome, ofWord, atEnd}
+use Rattle.walks.specs.declared.Progress.{Progress}
 use Rattle.excluded.specs.Excluded.{NoMove, Walks}
 use Rattle.excluded.proofs.Answers.{same-progress}
 use Rattle.excluded.proofs.Examiners.{cond-case, step-moves}

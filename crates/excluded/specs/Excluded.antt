@@ -35,8 +35,8 @@ use Rattle.model.specs.Cases.{bank0Read}
 use Rattle.model.specs.Runs.{Call, offer, tick, Accepted, Run, pairsOf, starts, latestStart}
 use Rattle.model.specs.Demand3.{putOut, taken, InOrder, Prompt}
 use Rattle.borrowed.specs.Excluded.{Never}
-use Rattle.cursor.specs.Walk.{progressOutcome, moved, MovePromised}
-use Rattle.cursor.specs.declared.Progress.{Progress}
+use Rattle.walks.specs.Walk.{progressOutcome, moved, MovePromised}
+use Rattle.walks.specs.declared.Progress.{Progress}
 
 -- words of start-up and DESL alone, on sheet E
 abbrev pub idleWords : ℕ → List ℕ

@@ -7,11 +7,11 @@ use controller::CallAnswer;
 use controller::Controller;
 use counts::CommandCounts;
 use counts::CountsAnswer;
-use cursor::Progress;
 use libc::STDOUT_FILENO;
 use protocol::Breach;
 use protocol::Verdict;
 use reading::ReadAnswer;
+use walks::Progress;
 use writing::WriteAnswer;
 
 pub(crate) fn text(bytes: &[u8]) {

@@ -6,12 +6,12 @@ use crate::script::word;
 use crate::shown;
 use crate::states::checker_at;
 use config::Config;
-use cursor::Moved;
-use cursor::Progress;
 use cursor::advance_through;
 use protocol::Checker;
 use protocol::Stepped;
 use protocol::Verdict;
+use walks::Moved;
+use walks::Progress;
 
 fn passed(verdict: Verdict) -> bool {
     match verdict {

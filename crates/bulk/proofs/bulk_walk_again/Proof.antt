@@ -1,7 +1,7 @@
 -- The number of one advance more, from the state that the walk has left. Assumes nothing.
 use mathlib.Core.Path.{_∙_, ap}
 use denote.Ref.{now}
-use Rattle.cursor.specs.Walk.{moveOf}
+use Rattle.walks.specs.Walk.{moveOf}
 use Rattle.bulk.specs.Numbers.{walkNumber}
 use borrow.Author.Needs.{needs}
 use Rattle.bulk.proofs.bulk_walk_again.Statement.{statement}

@@ -44,23 +44,23 @@ use denote.Triple.Table.{cited}
 use denote.Triple.Walked.{says, Stays, stay-ref, walkOf, goes-ref, ends-at}
 use Rattle.protocol.proofs.checker.Checker as K
 use Rattle.protocol.proofs.checker.Checker.Laws as K′
-use Rattle.cursor.specs.Walk.{MovePromised}
+use Rattle.walks.specs.Walk.{MovePromised}
 use Rattle.cursor.specs.declared.TraceCursor.{TraceCursor}
-use Rattle.cursor.specs.declared.Moved.{Moved}
+use Rattle.walks.specs.declared.Moved.{Moved}
 use Rattle.borrowed.proofs.Locals.{Blocks, env, Content, room, holds, locals, cell, begins, aside, freed, held, held-field, sets, lands-in}
 use Rattle.borrowed.proofs.Behind.{Known, typed, opened, closed, told, reached}
 use Rattle.cursor.proofs.Cursors.{α, D, L, Cursor, with-checker, changed, wordsVal, checkerVal, cursorVal}
 use Rattle.cursor.proofs.Cursors.{checker-is, progress-made, progress-typed, moved-typed, cursor-typed}
 use Rattle.cursor.proofs.TraceCursor as T
 use Rattle.cursor.proofs.TraceCursor.Laws as T′
-use Rattle.cursor.proofs.Moved as N
-use Rattle.cursor.proofs.Moved.Laws as N′
-use Rattle.cursor.proofs.Progress as P
-use Rattle.cursor.proofs.Progress.Laws as P′
-use Rattle.cursor.proofs.next_word as next
-use Rattle.cursor.proofs.next_word.Symbol as next-def
-use Rattle.cursor.proofs.next_word.Symbol.{name as #next}
-use Rattle.cursor.proofs.next_word.Met as next-thm
+use Rattle.walks.proofs.Moved as N
+use Rattle.walks.proofs.Moved.Laws as N′
+use Rattle.walks.proofs.Progress as P
+use Rattle.walks.proofs.Progress.Laws as P′
+use Rattle.walks.proofs.next_word as next
+use Rattle.walks.proofs.next_word.Symbol as next-def
+use Rattle.walks.proofs.next_word.Symbol.{name as #next}
+use Rattle.walks.proofs.next_word.Met as next-thm
 use Rattle.cursor.proofs.advance.Key.{name as #advance}
 use Rattle.cursor.proofs.advance as advance
 use Rattle.cursor.proofs.advance.Statement as stated
@@ -191,7 +191,7 @@ unfolding code.routine
 advance-spec 𝓤 H 𝓜 𝓖 𝓡 =
     let W = givenOf 𝓤 H 𝓜 𝓖 in
     let known = cited 𝓤 H (NextWord 𝓤 H (𝓖 .A) (𝓜 .mem) (𝓡 .run)) 𝓜 𝓡 code.env #next next-def.routine
-    code.calls-cursor·next-word (next-thm.met 𝓤 H 𝓜 𝓖 𝓡) in
+    code.calls-walks·next-word (next-thm.met 𝓤 H 𝓜 𝓖 𝓡) in
     reached 𝓤 H 𝓜 𝓖 𝓡 advance.ended code.env stayed (goes-ref 𝓤 H (𝓖 .A) W 2 0 tt behind, tt)
     (advance.clauses 𝓤 H (𝓖 .A) (𝓜 .mem) (𝓡 .run)) #advance code.function (code.unfolded 𝓤 H 𝓜 𝓡)
     (λ κs. (ptr-vals, tt)) (λ κs. (mut-tells (named 0) (κs .0) (Cursor (κs .1 .0)), tt))

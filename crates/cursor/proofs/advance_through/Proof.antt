@@ -44,9 +44,10 @@ use Rattle.config.proofs.Config as F
 use Rattle.protocol.specs.declared.checker.Checker.{Checker}
 use Rattle.protocol.proofs.checker.Checker as K
 use Rattle.protocol.proofs.checker.Checker.Laws as K′
-use Rattle.cursor.specs.Walk.{MovePromised, AdvancePromised, NewPromised}
+use Rattle.walks.specs.Walk.{MovePromised}
+use Rattle.cursor.specs.Cursor.{AdvancePromised, NewPromised}
 use Rattle.cursor.specs.declared.TraceCursor.{TraceCursor}
-use Rattle.cursor.specs.declared.Progress.{Progress}
+use Rattle.walks.specs.declared.Progress.{Progress}
 use Rattle.borrowed.proofs.Locals.{Blocks, env, Content, room, holds, locals, cell, begins, aside, freed, held, held-field, sets, lands-in}
 use Rattle.borrowed.proofs.Behind.{typed, owned-data, told, reached}
 use Rattle.cursor.proofs.Cursors.{D, L, Cursor, Words, Both, kept, both, changed, wordsVal, configVal, checkerVal, cursorVal}
@@ -55,9 +56,9 @@ use Rattle.cursor.proofs.Cursors.{checker-is, answer-is, words-typed, p
 use Rattle.borrowed.proofs.Lending.{Ref, lent, returned, regained}
 use Rattle.cursor.proofs.TraceCursor as T
 use Rattle.cursor.proofs.TraceCursor.Laws as T′
-use Rattle.cursor.proofs.Moved as N
-use Rattle.cursor.proofs.Moved.Laws as N′
-use Rattle.cursor.proofs.Progress as P
+use Rattle.walks.proofs.Moved as N
+use Rattle.walks.proofs.Moved.Laws as N′
+use Rattle.walks.proofs.Progress as P
 use Rattle.cursor.proofs.new as new
 use Rattle.cursor.proofs.new.Symbol as new-def
 use Rattle.cursor.proofs.new.Symbol.{name as #new}

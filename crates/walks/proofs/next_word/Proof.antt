@@ -1,8 +1,8 @@
 -- A step on the word at the clock, or what is answered with no word left. Assumes nothing.
 use borrow.Author.Needs.{needs}
 use borrow.Author.Tests.{lt-ltb, le-ltb}
-use Rattle.cursor.proofs.next_word.Statement.{statement}
-use Rattle.cursor.proofs.next_word.Tie as tie
+use Rattle.walks.proofs.next_word.Statement.{statement}
+use Rattle.walks.proofs.next_word.Tie as tie
 
 cast-at : tie.Need-cast-at
 cast-at c = search needs

@@ -1,7 +1,7 @@
 -- The configuration's refusal, 19, or end. Assumes nothing.
 use borrow.Author.Needs.{needs}
-use Rattle.cursor.proofs.at_end.Statement.{statement}
-use Rattle.cursor.proofs.at_end.Tie as tie
+use Rattle.walks.proofs.at_end.Statement.{statement}
+use Rattle.walks.proofs.at_end.Tie as tie
 
 timing-requires : tie.Need-timing-requires
 timing-requires c κs = search needs

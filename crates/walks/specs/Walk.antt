@@ -5,7 +5,6 @@ use mathlib.Core.Bool.{cond}
 use mathlib.Core.List.{List, [], _∷_}
 use lib.ListN.{length, getD}
 use lib.Dec.{ltb}
-use denote.Ref.{RefT, now}
 use Rattle.config.specs.Outcome.{Outcome, value, refused, require, given}
 use Rattle.config.specs.Numbers.{refusalNumber}
 use Rattle.config.specs.Configuration.{timingOf}
@@ -14,10 +13,9 @@ use Rattle.config.specs.declared.Timing.{Timing}
 use Rattle.rules.specs.Verdict.{Judgement, accepted, breach, judge}
 use Rattle.protocol.specs.Steps.{Step, fresh, clockFits, stepOf}
 use Rattle.protocol.specs.declared.checker.Checker.{Checker}
-use Rattle.cursor.specs.declared.Moved.{Moved}
-use Rattle.cursor.specs.declared.Progress.{Progress}
-use Rattle.cursor.specs.declared.TraceCursor.{TraceCursor}
-use Rattle.cursor.specs.declared.Progress.the-variants.{Passed, InBreach, Refused, End}
+use Rattle.walks.specs.declared.Moved.{Moved}
+use Rattle.walks.specs.declared.Progress.{Progress}
+use Rattle.walks.specs.declared.Progress.the-variants.{Passed, InBreach, Refused, End}
 
 -- what an advance reaches: its word passed, it breached (clock and number), or no word was left
 pub data Reached : Type 0 where
@@ -66,15 +64,6 @@ moveOf s ws = cond (ltb (s .clock) (length ws)) (examined (stepOf s (getD ws (s 
 -- what the contracts of `next_word` and `advance_through` say of the result r
 abbrev pub MovePromised : Checker → List ℕ → Moved → Type 0
 MovePromised s ws r = moved r ≡ moveOf s ws
-
--- what that of `advance` says of a walk that is s before the call and `after` afterwards
-abbrev pub AdvancePromised : TraceCursor → Progress → TraceCursor → Type 0
-AdvancePromised s answer after =
-    (after .words ≡ s .words) × MovePromised (s .checker) (now (s .words)) (record { progress = answer; checker = after .checker })
-
--- what that of `new` says of the walk r
-abbrev pub NewPromised : RefT (List ℕ) → Config → TraceCursor → Type 0
-NewPromised words c r = (r .words ≡ words) × (r .checker ≡ fresh c)
 
 -- the state after n advances, whatever each answered
 abbrev pub advanced : ℕ → Checker → List ℕ → Checker

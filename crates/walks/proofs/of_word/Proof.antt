@@ -1,7 +1,7 @@
 -- By the verdict's cases. Assumes nothing.
 use borrow.Author.Needs.{needs}
-use Rattle.cursor.proofs.of_word.Statement.{statement}
-use Rattle.cursor.proofs.of_word.Tie as tie
+use Rattle.walks.proofs.of_word.Statement.{statement}
+use Rattle.walks.proofs.of_word.Tie as tie
 
 enum-told : tie.Need-enum-told
 enum-told c = search needs

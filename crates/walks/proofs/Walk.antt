@@ -22,8 +22,8 @@ use Rattle.protocol.specs.Steps.{Step, fresh, clockFits, refusing, stepBy, step
 use Rattle.protocol.specs.Refinement.{follow, stepping, afterAll}
 use Rattle.protocol.specs.declared.checker.Checker.{Checker}
 use Rattle.protocol.proofs.Refinement.{refinement}
-use Rattle.cursor.specs.Walk.{Reached, ended, Move, staying, ofWord, examined, atEnd, moveOf, advanced, unless, walking, stopOf}
-use Rattle.cursor.specs.Walk.{CheckerCall, step, advance, afterCalls, Walk}
+use Rattle.walks.specs.Walk.{Reached, ended, Move, staying, ofWord, examined, atEnd, moveOf, advanced, unless, walking, stopOf}
+use Rattle.walks.specs.Walk.{CheckerCall, step, advance, afterCalls, Walk}
 
 -- what holds of an examined word, and where none is left, holds of an advance
 move-case : (P : Move → Type 0) (s : Checker) (ws : List ℕ) → (s .clock < length ws → P (examined (stepOf s (getD ws (s .clock) 0))))

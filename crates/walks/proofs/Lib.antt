@@ -1,0 +1,2 @@
+-- A whole walk and the published verdict.
+pub mod Walk

@@ -1,0 +1,2 @@
+-- What an advance does, and a whole walk beside the published verdict.
+pub mod Walk
