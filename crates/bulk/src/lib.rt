@@ -42,7 +42,7 @@ fn config_of(sheet: &[u32; 10]) -> Config
 pub extern "C" fn bulk_check(sheet: &[u32; 10], words: &[u32]) -> u64
     ensures { λ r. ⌜ r ≡ checkNumber (checkOf (sheetOf (now (sheet .entry))) (now (words .entry))) ⌝ }
 {
-    of_verdict(protocol::check(config_of(sheet), words))
+    of_verdict(wordcheck::check(config_of(sheet), words))
 }
 
 // A fresh walk, advanced until it does not pass: the answer that it stops with.

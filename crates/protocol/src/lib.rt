@@ -1,6 +1,5 @@
-// The checker: a bounded state that takes one word after the other, and the whole check of a trace.
+// The checker: a bounded state that takes one word after the other.
 mod checker;
-mod trace;
 
 pub use checker::Breach;
 pub use checker::Checker;
@@ -8,4 +7,3 @@ pub use checker::LIMIT;
 pub use checker::Stepped;
 pub use checker::Verdict;
 pub use checker::clock_fits;
-pub use trace::check;

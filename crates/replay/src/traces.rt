@@ -94,7 +94,7 @@ fn walk(words: &[u32], config: Config) {
 // 3: the whole check. 8 and 107: count the commands. 10: a walk. 108: one advance.
 fn on_words(code: u32, count: u32, words: &[u32], config: Config, checker: Checker) -> Checker {
     match code {
-        3 => answers::checked(protocol::check(config, words), count),
+        3 => answers::checked(wordcheck::check(config, words), count),
         8 => answers::counted(counts::count_commands(words)),
         10 => walk(words, config),
         107 => shown::counted(counts::count_commands(words)),

@@ -8,8 +8,8 @@ use denote.Ref.{now}
 use Rattle.rules.specs.Verdict.{judge}
 use Rattle.config.specs.Outcome.{value}
 use Rattle.rules.proofs.Words.{run, run-is, run-passes, run-breaches, run-ends}
-use Rattle.protocol.proofs.trace.judged.Statement.{statement}
-use Rattle.protocol.proofs.trace.judged.Tie as tie
+use Rattle.wordcheck.proofs.judged.Statement.{statement}
+use Rattle.wordcheck.proofs.judged.Tie as tie
 
 abbrev Inv-loop : tie.InvT-loop
 Inv-loop timing words stamps₀ first₀ clock₀ stamps first clock =

@@ -1,11 +1,11 @@
 // The whole check of a trace: one pass, and nothing tested inside it that the door has tested.
-use crate::checker::Breach;
-use crate::checker::LIMIT;
-use crate::checker::Verdict;
 use config::Config;
 use config::Refusal;
 use config::Timing;
 use config::TimingAnswer;
+use protocol::Breach;
+use protocol::LIMIT;
+use protocol::Verdict;
 use rules::word_breach;
 use stamps::DESL;
 use stamps::Timestamps;

@@ -8,8 +8,8 @@ use denote.Ref.{now}
 use native.Mathlib.Omega.{arith}
 use borrow.Author.Tests.{le-leb, lt-leb}
 use borrow.Author.Needs.{needs}
-use Rattle.protocol.proofs.trace.check.Statement.{statement}
-use Rattle.protocol.proofs.trace.check.Tie as tie
+use Rattle.wordcheck.proofs.check.Statement.{statement}
+use Rattle.wordcheck.proofs.check.Tie as tie
 
 -- how many words there are, and what the test of the limit tells
 abbrev count : tie.After-known-told2 → ℕ
