@@ -5,9 +5,9 @@ use reference::expected::{answers, Answers};
 use reference::program::{run, Feed};
 use reference::script::{bytes, Call, Packer};
 use reference::suites::{Suite, SUITES};
-use std::path::PathBuf;
+use std::path::{Path, PathBuf};
 use std::process::exit;
-use std::time::Instant;
+use std::time::{Duration, Instant};
 
 const USAGE: &str =
     "compare --replay PATH|self [--scale N] [pairs] [checker] [controller] [scripts] [states]";
@@ -147,6 +147,31 @@ fn run_suite(program: &Program, suite: &Suite, scale: u32) -> bool {
     tally.coverage.report(&(suite.promised)())
 }
 
+/// Hands a script over so that a read may fail on the way: the program runs the whole of it, or nothing. Tells whether it met both.
+fn run_unready(path: &Path) -> bool {
+    let script = bytes(&[9; 300]);
+    let wanted = answers(&script);
+    let mut whole = 0;
+    let mut silent = 0;
+    for turn in 0..60 {
+        // At times no read fails; at times the rest comes long after the program has met the failed read.
+        let (first, pause) = match turn {
+            0 => (600, Duration::from_secs(5)),
+            1..=9 => (script.len(), Duration::ZERO),
+            _ => (20 * turn, Duration::from_micros(25 * turn as u64)),
+        };
+        let text = run(path, &script, Feed::Unready(first, pause)).map(|output| output.bytes);
+        match text {
+            Ok(text) if text.is_empty() => silent += 1,
+            Ok(text) if text == wanted.text.as_bytes() => whole += 1,
+            Ok(_) => fail(&script, &wanted, 0, "part of a script was run"),
+            Err(fault) => fail(&script, &wanted, 0, &fault),
+        }
+    }
+    println!("scripts whose reading may fail: {whole} run whole, {silent} not at all");
+    whole > 0 && silent > 0
+}
+
 fn main() {
     let mut program = None;
     let mut scale = 1;
@@ -170,6 +195,9 @@ fn main() {
     let mut sound = true;
     for suite in SUITES.iter().filter(wanted) {
         sound &= run_suite(&program, suite, scale);
+        if let (Program(Some(path)), "scripts") = (&program, suite.name) {
+            sound &= run_unready(path);
+        }
     }
     println!(
         "{}",
