@@ -1,4 +1,4 @@
--- A sheet as ten numbers, in the order of RULES 1.1; and an answer as one number: 0 for accepted or end, the refusal's number, or a breach as 2^40 and its clock times 64 and its number.
+-- A sheet as ten numbers, and an answer as one.
 use Prim.Native.Nat.{ℕ, _+_, _*_}
 use lib.ListN.{getD}
 use mathlib.Core.List.{List}
@@ -8,19 +8,22 @@ use Rattle.config.specs.Outcome.{Outcome, value, refused}
 use Rattle.rules.specs.Verdict.{Judgement, accepted, breach}
 use Rattle.walks.specs.Walk.{Reached, passed, breached, ended}
 
+-- the configuration of ten numbers in the order of RULES 1.1
 abbrev pub sheetOf : List ℕ → Config
 sheetOf s =
     configOf (getD s 0 0) (getD s 1 0) (getD s 2 0) (getD s 3 0) (getD s 4 0) (getD s 5 0) (getD s 6 0) (getD s 7 0) (getD s 8 0) (getD s 9 0)
 
+-- a breach is 2^40 and its clock times 64 and its number
 abbrev pub breachNumber : ℕ → ℕ → ℕ
 breachNumber clock n = 1099511627776 + clock * 64 + n
 
+-- 0 for accepted, or the refusal's number
 abbrev pub checkNumber : Outcome Judgement → ℕ
 checkNumber (value accepted) = 0
 checkNumber (value (breach clock n)) = breachNumber clock n
 checkNumber (refused n) = n
 
--- a walk that stops does not pass; the number of a pass is no other answer's
+-- the same of a walk, with 0 for its end; one that stops does not pass, and the number of a pass is no other answer's
 abbrev pub walkNumber : Outcome Reached → ℕ
 walkNumber (value passed) = 1
 walkNumber (value (breached clock n)) = breachNumber clock n

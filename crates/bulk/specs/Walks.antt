@@ -9,6 +9,7 @@ use Rattle.protocol.specs.Steps.{fresh}
 use Rattle.protocol.specs.declared.checker.Checker.{Checker}
 use Rattle.walks.specs.Walk.{Reached, passed, breached, ended, Move, staying, moveOf}
 
+-- the word passed
 abbrev pub isPass : Outcome Reached → Bool
 isPass (value passed) = true
 isPass (value (breached k n)) = false

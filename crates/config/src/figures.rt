@@ -74,4 +74,10 @@ impl Timing {
     {
         self.window
     }
+
+    pub fn spacing(self) -> u32
+        ensures { λ r. ⌜ r ≡ self .spacing ⌝ }
+    {
+        self.spacing
+    }
 }

@@ -19,6 +19,7 @@ use Rattle.rules.specs.Breaches.{wordBreach}
 use Rattle.protocol.specs.Steps.{Step, verdictOutcome, fresh, clockFits, refusing, judged, stepBy, stepOf}
 use Rattle.protocol.specs.declared.checker.Checker.{Checker}
 use Rattle.protocol.specs.declared.checker.Verdict.{Verdict}
+use Rattle.protocol.proofs.Refinement.{cond-case}
 use Rattle.excluded.specs.Excluded.{NoStep, wrongMode, wrongModeBytes, Examiners}
 
 check-judges : (c : Config) (ws : List ℕ) {j : Judgement} → value j ≡ checkOf c ws → (t : Timing) × (value (judge t ws) ≡ value j)
@@ -42,10 +43,6 @@ accepted-breach e = breach-accepted (sym e)
 desls-pass : (t : Timing) (n k : ℕ) → judgeFrom t (record { clock = k; opened = none; pairs = [] }) (replicate n 0xC0000) ≡ accepted
 desls-pass t zero k = refl
 desls-pass t (suc n) k = desls-pass t n (k + 1)
-
-pub cond-case : {A : Type 0} (P : A → Type 0) (b : Bool) (x y : A) → (b ≡ true → P x) → (b ≡ false → P y) → P (cond b x y)
-cond-case P true x y f g = f refl
-cond-case P false x y f g = g refl
 
 -- what holds of a refusal, and of a word that is judged where no breach is recorded, holds of a step
 step-case : (P : Step → Type 0) (s : Checker) (w : ℕ) → ((n : ℕ) → P (refusing s n)) → ((t : Timing) → s .breach .number ≡ 0 → P (judged t s w))
@@ -93,7 +90,10 @@ examiners =
           λ c n b e.
           let j = check-judges c (replicate n 0xC0000) e in
           accepted-breach (ap value (sym (desls-pass (j .0) n 0)) ∙ j .1);
-      bytes-breach = λ c b e. accepted-breach (bytes-judge c [] e .1);
+      bytes-breach =
+          λ c bytes n b is e.
+          let j = bytes-judge c bytes e in
+          accepted-breach (sym (ap value (ap (judge (j .0)) is ∙ desls-pass (j .0) n 0)) ∙ j .1);
       step-breaches =
           λ c b after.
           no-step (fresh c) after 0xC0000 (Verdict.InBreach b)

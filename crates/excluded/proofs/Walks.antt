@@ -16,7 +16,8 @@ use Rattle.walks.specs.Walk.{passed, ended, progressOutcome, ofWord, atEnd}
 use Rattle.walks.specs.declared.Progress.{Progress}
 use Rattle.excluded.specs.Excluded.{NoMove, Walks}
 use Rattle.excluded.proofs.Answers.{same-progress}
-use Rattle.excluded.proofs.Examiners.{cond-case, step-moves}
+use Rattle.protocol.proofs.Refinement.{cond-case}
+use Rattle.excluded.proofs.Examiners.{step-moves}
 
 -- an examined word passes as the step has it, and never says end
 word-passed : (o : Outcome Judgement) → ofWord o ≡ value passed → o ≡ value accepted

@@ -16,6 +16,7 @@ use Rattle.reading.specs.Answers.{readOutcome}
 use Rattle.writing.specs.Answers.{writeOutcome}
 use Rattle.writing.specs.Writing.{requestFits}
 use Rattle.command.specs.declared.operation.Request.{Request}
+use Rattle.words.specs.Words.{wordsOf}
 use Rattle.rules.specs.History.{nothing}
 use Rattle.rules.specs.Rules.{breachAt}
 use Rattle.rules.specs.Verdict.{Judgement, accepted, lead, judge, checkOf, checkBytesOf}
@@ -129,7 +130,8 @@ pub record Examiners : Type 0 where
   pub step-accepts : (s after : Checker) → NoStep s 0 Verdict.Accepted after
   -- one that finds a breach in everything: DESL alone, none or any number of them, is in no breach
   pub check-breaches : (c : Config) (n : ℕ) (b : Breach) → NoCheck c (replicate n 0xC0000) (Verdict.InBreach b)
-  pub bytes-breach : (c : Config) (b : Breach) → NoCheckBytes c [] (Verdict.InBreach b)
+  pub bytes-breach : (c : Config) (bytes : List ℕ) (n : ℕ) (b : Breach) → wordsOf bytes ≡ replicate n 0xC0000
+      → NoCheckBytes c bytes (Verdict.InBreach b)
   pub step-breaches : (c : Config) (b : Breach) (after : Checker) → NoStep (fresh c) 0xC0000 (Verdict.InBreach b) after
   -- one that does not leave its first state: at a word that passes the clock goes one on, and a breach changes the state too
   pub step-stays : (s after : Checker) (w : ℕ) → (after .clock ≡ s .clock + 1 → ⊥) → NoStep s w Verdict.Accepted after

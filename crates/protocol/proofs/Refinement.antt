@@ -90,7 +90,7 @@ past-fits k f s h = rw (h .first, h .stamps) (fits (h .opened) k (h .pairs) (h .
 abbrev HasPast : Checker → Type 0
 HasPast c = OfPast (c .clock) (c .first) (c .stamps)
 
-cond-case : {A : Type 0} (P : A → Type 0) (b : Bool) (x y : A) → (b ≡ true → P x) → (b ≡ false → P y) → P (cond b x y)
+pub cond-case : {A : Type 0} (P : A → Type 0) (b : Bool) (x y : A) → (b ≡ true → P x) → (b ≡ false → P y) → P (cond b x y)
 cond-case P true x y f g = f refl
 cond-case P false x y f g = g refl
 

@@ -14,7 +14,6 @@ use Rattle.rules.specs.Verdict.{Judgement, accepted, breach}
 use Rattle.stamps.specs.Stamps.{nextStamps, nextFirst, never}
 use Rattle.rules.specs.Breaches.{wordBreach}
 use Rattle.stamps.specs.declared.Timestamps.{Timestamps}
-use Rattle.protocol.specs.declared.checker.Breach.{Breach}
 use Rattle.protocol.specs.declared.checker.Checker.{Checker}
 use Rattle.protocol.specs.declared.checker.Stepped.{Stepped}
 use Rattle.protocol.specs.declared.checker.Verdict.{Verdict}

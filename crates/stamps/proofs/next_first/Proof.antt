@@ -13,7 +13,7 @@ choose-requires : tie.Need-choose-requires
 choose-requires c κs = search needs
 
 returns : tie.Need-returns
-returns c = cc
+returns c = rw (c .choose .ensures, c .before .high2 .ensures, c .before .before .high .ensures)
 
 pub next-first-spec : {M : Type 1} → statement M
 next-first-spec = tie.close (tie.spec high-requires high-requires-2 choose-requires returns)

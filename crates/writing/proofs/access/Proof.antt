@@ -53,7 +53,9 @@ add-t22 : tie.Need-add-t22
 add-t22 c = omega arith
 
 returns : tie.Need-returns
-returns c = cc
+returns c =
+    let driven = c .before .before .before in
+    rw (driven .bit .ensures .0, driven .before .before .lane2 .ensures .0, driven .before .before .before .before .lane .ensures .0, driven .before .before .before .before .before .organisation .ensures, driven .before .before .before .before .before .before .bl .ensures)
 
 pub access-spec : {M : Type 1} → statement M
 access-spec =

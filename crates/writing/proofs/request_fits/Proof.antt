@@ -10,7 +10,7 @@ bl-requires : tie.Need-bl-requires
 bl-requires c κs = search needs
 
 returns : tie.Need-returns
-returns c = cc
+returns c = let read = c .before .before .before .before .before .before in rw (read .bl .ensures, read .before .organisation .ensures)
 
 pub request-fits-spec : {M : Type 1} → statement M
 request-fits-spec = tie.close (tie.spec organisation-requires bl-requires returns)

@@ -38,9 +38,23 @@ near-requires-4 c κs = search needs
 
 returns : tie.Need-returns
 returns c =
-    let a = c .before .before .before .before .before .before .before .before .args in
+    let begun = c .before .before .before .before .before .before .before .before in
+    let a = begun .args in
     let half = a .timing .bl / 2 in
-    cc (no-more (a .timing .rc), and-one (a .timing .cl) half, and-one (a .timing .wl) half, and-true (a .rda))
+    rw (
+      c .near4 .ensures,
+      c .before .wl .ensures,
+      c .before .before .near3 .ensures,
+      c .before .before .before .cl .ensures,
+      c .before .before .before .before .near2 .ensures,
+      c .before .before .before .before .before .near .ensures,
+      c .before .before .before .before .before .before .bl .ensures,
+      c .before .before .before .before .before .before .before .rc .ensures,
+      no-more (a .timing .rc),
+      and-one (a .timing .cl) half,
+      and-one (a .timing .wl) half,
+      and-true (a .rda),
+    )
 
 pub busy-spec : {M : Type 1} → statement M
 busy-spec =

@@ -13,7 +13,7 @@ lowest-early-requires : tie.Need-lowest-early-requires
 lowest-early-requires c κs = search needs
 
 returns : tie.Need-returns
-returns c = cc
+returns c = rw (c .lowest-early .ensures, c .before .high .ensures)
 
 pub early-breach-spec : {M : Type 1} → statement M
 early-breach-spec = tie.close (tie.spec add-overdue high-requires lowest-early-requires returns)

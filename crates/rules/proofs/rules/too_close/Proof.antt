@@ -28,9 +28,20 @@ near-requires-4 c κs = search needs
 
 returns : tie.Need-returns
 returns c =
-    let t = c .before .before .before .before .before .before .before .args .timing in
-    let rda = c .before .before .before .before .before .before .before .args .rda in
-    cc (no-more (t .rbd), and-true rda, and-true (not rda))
+    let begun = c .before .before .before .before .before .before .before in
+    let a = begun .args in
+    rw (
+      c .near4 .ensures,
+      c .before .wrd .ensures,
+      c .before .before .near3 .ensures,
+      c .before .before .before .rwd .ensures,
+      c .before .before .before .before .near2 .ensures,
+      c .before .before .before .before .before .near .ensures,
+      c .before .before .before .before .before .before .rbd .ensures,
+      no-more (a .timing .rbd),
+      and-true (a .rda),
+      and-true (not (a .rda)),
+    )
 
 pub too-close-spec : {M : Type 1} → statement M
 too-close-spec =
