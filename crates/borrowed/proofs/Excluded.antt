@@ -3,7 +3,7 @@
 use Prim.Native.Nat.{ℕ}
 use mathlib.Core.Path.{_≡_, sym, ap}
 use native.Mathlib.Omega.{arith}
-use Rattle.config.proofs.Outcomes.{refused-value}
+use Rattle.basics.proofs.Outcomes.{refused-value}
 use Rattle.controller.specs.declared.Controller.{Controller}
 use Rattle.controller.specs.declared.CallAnswer.{CallAnswer}
 use Rattle.controller.specs.declared.CallAnswer.the-variants.{Accepted}

@@ -4,7 +4,7 @@ use lib.ListN.{getD}
 use mathlib.Core.List.{List}
 use Rattle.config.specs.Configuration.{configOf}
 use Rattle.config.specs.declared.Config.{Config}
-use Rattle.config.specs.Outcome.{Outcome, value, refused}
+use Rattle.basics.specs.Outcome.{Outcome, value, refused}
 use Rattle.rules.specs.Verdict.{Judgement, accepted, breach}
 use Rattle.walks.specs.Walk.{Reached, passed, breached, ended}
 

@@ -2,8 +2,8 @@
 mod place;
 mod quick;
 
+use basics::Refusal;
 use config::Config;
-use config::Refusal;
 use config::Timing;
 use config::TimingAnswer;
 use place::Place;
@@ -15,7 +15,7 @@ use rules::word_breach;
 ghost use mathlib.Core.Path.{_≡_};
 ghost use Prim.Native.Nat.{_≤_, _/_};
 ghost use lib.ListN.{length};
-ghost use Rattle.config.specs.Outcome.{value};
+ghost use Rattle.basics.specs.Outcome.{value};
 ghost use Rattle.words.specs.Words.{wordsOf};
 ghost use Rattle.rules.specs.Verdict.{judge, checkBytesOf};
 ghost use Rattle.protocol.specs.Steps.{verdictOutcome};

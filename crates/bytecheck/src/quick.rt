@@ -1,12 +1,12 @@
 // A quick look: what is true only of words that breach nothing, by a few comparisons. It is there for speed.
 use crate::place::Place;
+use basics::choose;
 use command::pins::BA0;
 use command::pins::CS;
 use command::pins::FN;
 use command::pins::PD;
 use command::pins::high;
 use config::Timing;
-use config::choose;
 use stamps::DESL;
 use stamps::Timestamps;
 use stamps::next_first;

@@ -2,11 +2,11 @@
 use mathlib.Core.Path.{_≡_, sym}
 use mathlib.Core.Bool.{Bool, true, false}
 use native.Mathlib.Omega.{arith}
-use Rattle.config.specs.Outcome.{Outcome, value, refused, require, given}
+use Rattle.basics.specs.Outcome.{Outcome, value, refused, require, given}
 use Rattle.config.specs.Configuration.{partFits, periodFits, countsFit, derived, timingOf}
 use Rattle.config.specs.declared.Config.{Config}
 use Rattle.config.specs.declared.Timing.{Timing}
-use Rattle.config.proofs.Outcomes.{refused-value, refused-by, require-value, given-value}
+use Rattle.basics.proofs.Outcomes.{refused-value, refused-by, require-value, given-value}
 
 pub record Accepted (c : Config) : Type 0 where
   pub part : partFits c ≡ true

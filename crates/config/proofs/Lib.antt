@@ -1,4 +1,3 @@
--- Facts on configurations and outcomes that no single function's proof owns.
-pub mod Outcomes
+-- Facts on configurations that no single function's proof owns.
 pub mod Bounds
 pub mod Accepted

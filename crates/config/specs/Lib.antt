@@ -1,4 +1,3 @@
--- What the contracts of this crate say: outcomes, the numbers of refusals, and the sheet.
-pub mod Outcome
-pub mod Numbers
+-- What the contracts of this crate say: the sheet, and the answer of its test.
 pub mod Configuration
+pub mod Answers

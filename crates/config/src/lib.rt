@@ -1,13 +1,12 @@
 // The configuration of a memory part (the paper's sheet), and the timing that an accepted one yields.
 mod figures;
-mod refusal;
 
-pub use refusal::Refusal;
+use basics::Refusal;
+use basics::choose;
 ghost use mathlib.Core.Path.{_≡_};
-ghost use mathlib.Core.Bool.{cond};
 ghost use Prim.Native.Nat.{_≤_, _<_, max};
 ghost use Rattle.config.specs.Configuration.{leastPeriod, partFits, periodFits, countsFit, derived, timingOf, institute, configOf};
-ghost use Rattle.config.specs.Numbers.{timingOutcome};
+ghost use Rattle.config.specs.Answers.{timingOutcome};
 
 // A time in whole picoseconds: a type of its own, so that it is never taken for a count of clocks.
 pub struct Picoseconds(pub u32);
@@ -59,13 +58,6 @@ pub enum TimingAnswer {
 const LEAST_PERIOD: [[u32; 3]; 2] = [[5500, 4500, 3750], [6000, 5500, 5000]];
 
 const GREATEST_PERIOD: u32 = 8500;
-
-// x where the test holds, and otherwise y.
-pub fn choose(test: bool, x: u32, y: u32) -> u32
-    ensures { λ r. ⌜ r ≡ cond test x y ⌝ }
-{
-    if test { x } else { y }
-}
 
 fn larger(x: u32, y: u32) -> u32
     ensures { λ r. ⌜ r ≡ max x y ⌝ }

@@ -4,8 +4,8 @@ use mathlib.Core.Bool.{Bool, true, cond, not, _&&_}
 use mathlib.Core.List.{List, [], _∷_, _++_}
 use lib.ListN.{getD, set, take, drop}
 use lib.Dec.{eqb, leb, ltb}
-use Rattle.config.specs.Outcome.{Outcome, value, refused}
-use Rattle.config.specs.Numbers.{refusalNumber}
+use Rattle.basics.specs.Outcome.{Outcome, value, refused}
+use Rattle.basics.specs.Numbers.{refusalNumber}
 use Rattle.config.specs.Configuration.{timingOf}
 use Rattle.config.specs.declared.Timing.{Timing}
 use Rattle.writing.specs.Writing.{requestFits}

@@ -5,9 +5,9 @@ mod queue;
 mod state;
 mod ticking;
 
+use basics::Refusal;
 use command::Request;
 use config::Config;
-use config::Refusal;
 use config::TimingAnswer;
 use offering::not_offered;
 use offering::offer_by;

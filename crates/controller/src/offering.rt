@@ -3,13 +3,13 @@ use crate::CallAnswer;
 use crate::Controller;
 use crate::Offered;
 use crate::state::state_fits;
+use basics::Refusal;
 use command::Request;
-use config::Refusal;
 use config::Timing;
 ghost use mathlib.Core.Path.{_≡_};
 ghost use Prim.Native.Nat.{_<_};
-ghost use Rattle.config.specs.Outcome.{value};
-ghost use Rattle.config.specs.Numbers.{refusalNumber};
+ghost use Rattle.basics.specs.Outcome.{value};
+ghost use Rattle.basics.specs.Numbers.{refusalNumber};
 ghost use Rattle.controller.specs.Steps.{offered, joined, notOffered, offerBy};
 
 // An accepted request goes behind those that wait.

@@ -6,7 +6,7 @@ use crate::next::opens_next;
 use crate::queue::count_left;
 use crate::queue::requests_left;
 use crate::state::state_fits;
-use config::Refusal;
+use basics::Refusal;
 use config::Timing;
 use protocol::LIMIT;
 use scheduler::OpenPair;
@@ -16,8 +16,8 @@ use scheduler::pair_words;
 ghost use mathlib.Core.Path.{_≡_};
 ghost use mathlib.Core.Bool.{true};
 ghost use Prim.Native.Nat.{_<_};
-ghost use Rattle.config.specs.Outcome.{value};
-ghost use Rattle.config.specs.Numbers.{refusalNumber};
+ghost use Rattle.basics.specs.Outcome.{value};
+ghost use Rattle.basics.specs.Numbers.{refusalNumber};
 ghost use Rattle.controller.specs.Steps.{ticked, stateFits, starting, closing, notTicked, tickBy};
 
 // No pair is open: the first word of the one that opens, or DESL.

@@ -6,7 +6,7 @@ use mathlib.Core.List.{List, [], _∷_}
 use mathlib.Core.Option.{Option, none, some}
 use lib.ListN.{length}
 use lib.Dec.{leb}
-use Rattle.config.specs.Numbers.{refusalNumber}
+use Rattle.basics.specs.Numbers.{refusalNumber}
 use Rattle.command.specs.Pins.{level}
 use Rattle.command.specs.Pairs.{opens}
 use Rattle.rules.specs.History.{ClosedPair, Past, nothing, extend, pastFrom}

@@ -1,9 +1,9 @@
 // How often each command stands in a trace (the paper's tally). It judges nothing.
+use basics::Refusal;
 use command::pins::CS;
 use command::pins::FN;
 use command::pins::bit;
 use command::pins::high;
-use config::Refusal;
 use stamps::DESL;
 use stamps::next_first;
 ghost use mathlib.Core.Path.{_≡_};

@@ -4,7 +4,7 @@ use mathlib.Core.Path.{_≡_, sym, _∙_, ap}
 use mathlib.Core.List.{List, []}
 use native.Mathlib.Omega.{arith}
 use lib.ListN.{length}
-use Rattle.config.specs.Outcome.{Outcome, value}
+use Rattle.basics.specs.Outcome.{Outcome, value}
 use Rattle.walks.specs.Walk.{Reached, passed, ended}
 use Rattle.cursor.specs.Excluded.{passing, Excluded}
 

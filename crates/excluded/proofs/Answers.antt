@@ -4,12 +4,13 @@ use mathlib.Core.Path.{_≡_, refl, sym, _∙_, ap}
 use mathlib.Core.List.{List, [], _∷_}
 use mathlib.Core.Option.{Option, none, some}
 use lib.ListN.{getD}
-use Rattle.config.specs.Outcome.{Outcome, value, refused}
-use Rattle.config.specs.Numbers.{refusalNumber, timingOutcome}
+use Rattle.basics.specs.Outcome.{Outcome, value, refused}
+use Rattle.basics.specs.Numbers.{refusalNumber}
+use Rattle.config.specs.Answers.{timingOutcome}
 use Rattle.config.specs.declared.Timing.{Timing}
 use Rattle.config.specs.declared.TimingAnswer.{TimingAnswer}
-use Rattle.config.specs.declared.refusal.Refusal.{Refusal}
-use Rattle.config.specs.declared.refusal.Refusal.the-variants.{State, Part, Period, Count, InBreach, ClockLimit, InputSize, Field, QueueFull, NotAPair, PartialWord, TooLong}
+use Rattle.basics.specs.declared.refusal.Refusal.{Refusal}
+use Rattle.basics.specs.declared.refusal.Refusal.the-variants.{State, Part, Period, Count, InBreach, ClockLimit, InputSize, Field, QueueFull, NotAPair, PartialWord, TooLong}
 use Rattle.reading.specs.Answers.{readOutcome}
 use Rattle.writing.specs.Answers.{writeOutcome}
 use Rattle.command.specs.declared.operation.Operation.{Operation}

@@ -9,11 +9,11 @@ use native.Mathlib.Omega.{arith}
 use borrow.Author.Tests.{lt-ltb, ltb-true}
 use lib.ListN.{length, getD, replicate, length-append, List·getD-append}
 use lib.Dec.{ltb}
-use Rattle.config.specs.Outcome.{Outcome, value, refused, require, given}
+use Rattle.basics.specs.Outcome.{Outcome, value, refused, require, given}
 use Rattle.config.specs.Configuration.{institute, derived, timingOf}
 use Rattle.config.specs.declared.Timing.{Timing}
-use Rattle.config.specs.declared.refusal.Refusal.the-variants.{ClockLimit, Field, QueueFull}
-use Rattle.config.proofs.Outcomes.{require-value, given-value}
+use Rattle.basics.specs.declared.refusal.Refusal.the-variants.{ClockLimit, Field, QueueFull}
+use Rattle.basics.proofs.Outcomes.{require-value, given-value}
 use Rattle.writing.specs.Writing.{requestFits}
 use Rattle.command.specs.declared.operation.Request.{Request}
 use Rattle.rules.specs.History.{ClosedPair, pastFrom}

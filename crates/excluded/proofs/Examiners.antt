@@ -8,11 +8,11 @@ use native.Mathlib.Omega.{arith}
 use borrow.Author.Tests.{eqb-true, eqb-false}
 use lib.ListN.{length, replicate}
 use lib.Dec.{eqb, leb, ltb}
-use Rattle.config.specs.Outcome.{Outcome, value, refused}
+use Rattle.basics.specs.Outcome.{Outcome, value, refused}
 use Rattle.config.specs.Configuration.{timingOf}
 use Rattle.config.specs.declared.Config.{Config}
 use Rattle.config.specs.declared.Timing.{Timing}
-use Rattle.config.proofs.Outcomes.{refused-value, require-value, given-value}
+use Rattle.basics.proofs.Outcomes.{refused-value, require-value, given-value}
 use Rattle.words.specs.Words.{wordsOf}
 use Rattle.rules.specs.Verdict.{Judgement, accepted, breach, judgeFrom, judge, checkOf, checkBytesOf}
 use Rattle.rules.specs.Breaches.{wordBreach}

@@ -6,9 +6,9 @@ use native.Mathlib.Omega.{arith}
 use borrow.Author.Tests.{ltb-true, ltb-false}
 use lib.ListN.{length, getD}
 use lib.Dec.{ltb}
-use Rattle.config.specs.Outcome.{Outcome, value, refused}
+use Rattle.basics.specs.Outcome.{Outcome, value, refused}
 use Rattle.config.specs.Configuration.{timingOf}
-use Rattle.config.proofs.Outcomes.{refused-value, require-value, given-value}
+use Rattle.basics.proofs.Outcomes.{refused-value, require-value, given-value}
 use Rattle.rules.specs.Verdict.{Judgement, accepted, breach}
 use Rattle.protocol.specs.Steps.{clockFits, stepOf}
 use Rattle.protocol.specs.declared.checker.Checker.{Checker}

@@ -5,13 +5,14 @@ use mathlib.Core.Path.{_≡_}
 use mathlib.Core.Bool.{true, false}
 use mathlib.Core.List.{List, [], _∷_, _++_}
 use lib.ListN.{length, getD, replicate}
-use Rattle.config.specs.Outcome.{value}
-use Rattle.config.specs.Numbers.{refusalNumber, timingOutcome}
+use Rattle.basics.specs.Outcome.{value}
+use Rattle.basics.specs.Numbers.{refusalNumber}
+use Rattle.config.specs.Answers.{timingOutcome}
 use Rattle.config.specs.Configuration.{institute, derived, timingOf}
 use Rattle.config.specs.declared.Config.{Config}
 use Rattle.config.specs.declared.Timing.{Timing}
-use Rattle.config.specs.declared.refusal.Refusal.{Refusal}
-use Rattle.config.specs.declared.refusal.Refusal.the-variants.{ClockLimit, Field, QueueFull}
+use Rattle.basics.specs.declared.refusal.Refusal.{Refusal}
+use Rattle.basics.specs.declared.refusal.Refusal.the-variants.{ClockLimit, Field, QueueFull}
 use Rattle.reading.specs.Answers.{readOutcome}
 use Rattle.writing.specs.Answers.{writeOutcome}
 use Rattle.writing.specs.Writing.{requestFits}

@@ -7,7 +7,7 @@ use native.Mathlib.Omega.{arith}
 use borrow.Author.Tests.{leb-true}
 use lib.ListN.{length}
 use lib.Dec.{eqb, leb}
-use Rattle.config.specs.Outcome.{Outcome, value, refused, require, given}
+use Rattle.basics.specs.Outcome.{Outcome, value, refused, require, given}
 use Rattle.config.specs.Configuration.{timingOf}
 use Rattle.config.specs.declared.Config.{Config}
 use Rattle.config.specs.declared.Timing.{Timing}

@@ -1,6 +1,6 @@
 -- The exam site's answer as one number (RULES 10.1).
 use Prim.Native.Nat.{ℕ, _+_, _*_}
-use Rattle.config.specs.Outcome.{Outcome, value, refused}
+use Rattle.basics.specs.Outcome.{Outcome, value, refused}
 use Rattle.rules.specs.Verdict.{Judgement, accepted, breach}
 
 -- 0 for accepted, a refusal's number, or the clock of a breach times 64 plus its number (RULES 10.1)

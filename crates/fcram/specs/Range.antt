@@ -1,6 +1,6 @@
 -- For a private function alone: what keeps the number within 32 bits.
 use Prim.Native.Nat.{_<_}
-use Rattle.config.specs.Outcome.{Outcome, value, refused}
+use Rattle.basics.specs.Outcome.{Outcome, value, refused}
 use Rattle.rules.specs.Verdict.{Judgement, accepted, breach}
 
 -- a breach is at a clock of a trace, and its number is below 64

@@ -3,7 +3,7 @@ use Prim.Native.Nat.{ℕ, _/_}
 use mathlib.Core.List.{List, [], _∷_, _++_}
 use lib.ListN.{length}
 use lib.Dec.{leb}
-use Rattle.config.specs.Outcome.{Outcome, value, refused, require}
+use Rattle.basics.specs.Outcome.{Outcome, value, refused, require}
 use Rattle.config.specs.Configuration.{institute}
 use Rattle.rules.specs.Verdict.{Judgement, accepted, breach, checkBytesOf}
 use Rattle.marker.specs.Text.{decimal}

@@ -9,7 +9,7 @@ use borrow.Author.Tests.{lt-ltb, le-ltb, le-leb, ne-eqb}
 use lib.ListN.{length, length-append, replicate}
 use lib.Seq.{take-append-seam, drop-append-seam, set-append-seam}
 use lib.Dec.{eqb, ltb}
-use Rattle.config.specs.Outcome.{value}
+use Rattle.basics.specs.Outcome.{value}
 use Rattle.config.specs.Configuration.{timingOf}
 use Rattle.config.specs.declared.Config.{Config}
 use Rattle.config.specs.declared.Timing.{Timing}

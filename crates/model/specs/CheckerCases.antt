@@ -5,7 +5,7 @@ use mathlib.Core.Bool.{Bool, true, _&&_}
 use mathlib.Core.List.{List, [], _∷_, _++_}
 use lib.ListN.{replicate}
 use lib.Dec.{eqb}
-use Rattle.config.specs.Outcome.{Outcome, value, refused}
+use Rattle.basics.specs.Outcome.{Outcome, value, refused}
 use Rattle.config.specs.Configuration.{institute, derived, timingOf}
 use Rattle.config.specs.declared.Config.{Config}
 use Rattle.writing.specs.Writing.{writePair}

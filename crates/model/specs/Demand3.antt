@@ -5,7 +5,7 @@ use mathlib.Core.Path.{_≡_}
 use mathlib.Core.List.{List, _∷_, _++_, map}
 use lib.ListN.{length, getD}
 use lib.Dec.{ltb}
-use Rattle.config.specs.Outcome.{value, refused, require}
+use Rattle.basics.specs.Outcome.{value, refused, require}
 use Rattle.config.specs.Configuration.{timingOf}
 use Rattle.config.specs.declared.Config.{Config}
 use Rattle.config.specs.declared.Timing.{Timing}

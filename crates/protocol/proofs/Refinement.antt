@@ -8,11 +8,11 @@ use native.Mathlib.Omega.{arith}
 use borrow.Author.Tests.{lt-ltb, eq-eqb, ne-eqb, ltb-true}
 use lib.ListN.{length}
 use lib.Dec.{eqb, ltb}
-use Rattle.config.specs.Outcome.{Outcome, value, refused}
+use Rattle.basics.specs.Outcome.{Outcome, value, refused}
 use Rattle.config.specs.Configuration.{timingOf}
 use Rattle.config.specs.declared.Config.{Config}
 use Rattle.config.specs.declared.Timing.{Timing}
-use Rattle.config.proofs.Outcomes.{refused-value, same-number, refused-by}
+use Rattle.basics.proofs.Outcomes.{refused-value, same-number, refused-by}
 use Rattle.config.proofs.Accepted.{config-19}
 use Rattle.rules.specs.History.{ClosedPair, Past, extendBy}
 use Rattle.rules.specs.Verdict.{accepted, breach, judge}

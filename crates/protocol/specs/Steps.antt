@@ -4,8 +4,8 @@ use mathlib.Core.Bool.{Bool, cond, not, _&&_, _||_}
 use mathlib.Core.List.{List}
 use lib.ListN.{getD}
 use lib.Dec.{eqb, leb, ltb}
-use Rattle.config.specs.Outcome.{Outcome, value, refused}
-use Rattle.config.specs.Numbers.{refusalNumber}
+use Rattle.basics.specs.Outcome.{Outcome, value, refused}
+use Rattle.basics.specs.Numbers.{refusalNumber}
 use Rattle.config.specs.Configuration.{timingOf}
 use Rattle.config.specs.declared.Config.{Config}
 use Rattle.config.specs.declared.Timing.{Timing}

@@ -1,8 +1,8 @@
 // The checker (the paper's examiner): a state that takes one word after the other.
+use basics::Refusal;
 use command::pins::CS;
 use command::pins::high;
 use config::Config;
-use config::Refusal;
 use config::Timing;
 use config::TimingAnswer;
 use rules::word_breach;
@@ -12,7 +12,7 @@ use stamps::next_first;
 ghost use mathlib.Core.Path.{_≡_};
 ghost use Prim.Native.Nat.{_<_};
 ghost use Rattle.protocol.specs.Steps.{eightBefore, stampsBefore, clockFits, fresh, stepped, judged, stepBy, stepOf};
-ghost use Rattle.config.specs.Outcome.{value};
+ghost use Rattle.basics.specs.Outcome.{value};
 
 // The clock and the number of a breach; number 0 where there is none.
 pub struct Breach {

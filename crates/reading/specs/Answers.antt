@@ -1,6 +1,6 @@
 -- What an answer of this crate is in the paper's terms.
-use Rattle.config.specs.Outcome.{Outcome, value, refused}
-use Rattle.config.specs.Numbers.{refusalNumber}
+use Rattle.basics.specs.Outcome.{Outcome, value, refused}
+use Rattle.basics.specs.Numbers.{refusalNumber}
 use Rattle.command.specs.declared.operation.Operation.{Operation}
 use Rattle.reading.specs.declared.ReadAnswer.{ReadAnswer}
 use Rattle.reading.specs.declared.ReadAnswer.the-variants.{Read, Refused}

@@ -2,7 +2,7 @@
 use Prim.Native.Nat.{ℕ, _/_}
 use mathlib.Core.Bool.{Bool, true, false, cond, not, _&&_, _||_}
 use lib.Dec.{eqb}
-use Rattle.config.specs.Outcome.{Outcome, value, require, given}
+use Rattle.basics.specs.Outcome.{Outcome, value, require, given}
 use Rattle.config.specs.Configuration.{timingOf}
 use Rattle.config.specs.declared.Config.{Config}
 use Rattle.config.specs.declared.Timing.{Timing}

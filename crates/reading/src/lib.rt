@@ -1,4 +1,5 @@
 // A pair of words is read to the operation that it stands for. Where a test picks the case, the leaf takes the test's result.
+use basics::Refusal;
 use command::Operation;
 use command::Pair;
 use command::Request;
@@ -19,7 +20,6 @@ use command::pins::PD;
 use command::pins::high;
 use command::pins::kept;
 use config::Config;
-use config::Refusal;
 use config::Timing;
 use config::TimingAnswer;
 ghost use mathlib.Core.Path.{_≡_};

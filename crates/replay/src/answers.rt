@@ -1,7 +1,7 @@
 // The lines that answers are written as.
+use basics::Refusal;
 use command::Operation;
 use command::Request;
-use config::Refusal;
 use config::TimingAnswer;
 use controller::CallAnswer;
 use controller::Controller;

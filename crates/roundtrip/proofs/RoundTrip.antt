@@ -2,11 +2,11 @@
 -- for which WrittenBack and ReadBack have the two halves, and IgnoredPins that a refused pair stays one. Assumes nothing.
 use mathlib.Core.Path.{_≡_, refl, sym, subst, _∙_}
 use mathlib.Core.Bool.{Bool, true, false, _||_}
-use Rattle.config.specs.Outcome.{Outcome, value, refused, require}
+use Rattle.basics.specs.Outcome.{Outcome, value, refused, require}
 use Rattle.config.specs.Configuration.{derived, timingOf}
 use Rattle.config.specs.declared.Config.{Config}
 use Rattle.config.specs.declared.Timing.{Timing}
-use Rattle.config.proofs.Outcomes.{require-value}
+use Rattle.basics.proofs.Outcomes.{require-value}
 use Rattle.config.proofs.Bounds.{cl-bounds, bl-cases}
 use Rattle.config.proofs.Accepted.{Accepted, accepted, behind, timing-is}
 use Rattle.command.specs.Pins.{strayBit}

@@ -1,7 +1,7 @@
 -- Reading and writing are each other's inverse, and no ignored pin changes what is read, over all configurations (RULES 2.7, 3.5).
 use mathlib.Core.Path.{_≡_}
 use mathlib.Core.Bool.{false, _||_}
-use Rattle.config.specs.Outcome.{value}
+use Rattle.basics.specs.Outcome.{value}
 use Rattle.config.specs.declared.Config.{Config}
 use Rattle.command.specs.Pins.{strayBit}
 use Rattle.reading.specs.Reading.{readPair}

@@ -1,11 +1,11 @@
 // The rules as tests of what is kept of the past.
+use basics::choose;
 use command::pins::BA0;
 use command::pins::CS;
 use command::pins::FN;
 use command::pins::PD;
 use command::pins::high;
 use config::Timing;
-use config::choose;
 use stamps::Timestamps;
 ghost use mathlib.Core.Path.{_≡_};
 ghost use mathlib.Core.Bool.{true, false};

@@ -1,9 +1,9 @@
 // What is kept of the past: the clock of each event's closing word, 0 for never.
+use basics::choose;
 use command::pins::BA0;
 use command::pins::CS;
 use command::pins::FN;
 use command::pins::high;
-use config::choose;
 ghost use mathlib.Core.Path.{_≡_};
 ghost use Prim.Native.Nat.{_<_};
 ghost use Rattle.stamps.specs.Stamps.{withAccess, withMode, withRefresh, remembered, nextStamps, nextFirst, never};

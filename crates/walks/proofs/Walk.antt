@@ -10,11 +10,11 @@ use borrow.Author.Tests.{ltb-true, ltb-false}
 use lib.ListN.{length, getD, drop, drop-of-length-le}
 use lib.Seq.{drop-cons}
 use lib.Dec.{eqb, ltb}
-use Rattle.config.specs.Outcome.{Outcome, value, refused}
+use Rattle.basics.specs.Outcome.{Outcome, value, refused}
 use Rattle.config.specs.Configuration.{timingOf}
 use Rattle.config.specs.declared.Config.{Config}
 use Rattle.config.specs.declared.Timing.{Timing}
-use Rattle.config.proofs.Outcomes.{refused-value, same-number}
+use Rattle.basics.proofs.Outcomes.{refused-value, same-number}
 use Rattle.config.proofs.Accepted.{config-19}
 use Rattle.rules.specs.Verdict.{Judgement, accepted, breach}
 use Rattle.rules.specs.Breaches.{wordBreach}

@@ -5,8 +5,8 @@ use mathlib.Core.Bool.{cond}
 use mathlib.Core.List.{List, [], _∷_}
 use lib.ListN.{length, getD}
 use lib.Dec.{ltb}
-use Rattle.config.specs.Outcome.{Outcome, value, refused, require, given}
-use Rattle.config.specs.Numbers.{refusalNumber}
+use Rattle.basics.specs.Outcome.{Outcome, value, refused, require, given}
+use Rattle.basics.specs.Numbers.{refusalNumber}
 use Rattle.config.specs.Configuration.{timingOf}
 use Rattle.config.specs.declared.Config.{Config}
 use Rattle.config.specs.declared.Timing.{Timing}

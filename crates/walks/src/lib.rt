@@ -1,5 +1,5 @@
 // One advance of a walk over lent words (RULES 5.5), for whoever holds the words and the checker that it has reached.
-use config::Refusal;
+use basics::Refusal;
 use config::TimingAnswer;
 use protocol::Breach;
 use protocol::Checker;

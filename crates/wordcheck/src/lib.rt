@@ -1,6 +1,6 @@
 // The whole check of a trace: one pass, and nothing tested inside it that the door has tested.
+use basics::Refusal;
 use config::Config;
-use config::Refusal;
 use config::Timing;
 use config::TimingAnswer;
 use protocol::Breach;
@@ -13,7 +13,7 @@ use stamps::next_first;
 ghost use mathlib.Core.Path.{_≡_};
 ghost use Prim.Native.Nat.{_≤_};
 ghost use lib.ListN.{length};
-ghost use Rattle.config.specs.Outcome.{value};
+ghost use Rattle.basics.specs.Outcome.{value};
 ghost use Rattle.rules.specs.Verdict.{judge, checkOf};
 ghost use Rattle.protocol.specs.Steps.{verdictOutcome};
 

@@ -1,6 +1,6 @@
 -- What an answer of this crate is in the paper's terms.
-use Rattle.config.specs.Outcome.{Outcome, value, refused}
-use Rattle.config.specs.Numbers.{refusalNumber}
+use Rattle.basics.specs.Outcome.{Outcome, value, refused}
+use Rattle.basics.specs.Numbers.{refusalNumber}
 use Rattle.command.specs.declared.operation.Pair.{Pair}
 use Rattle.writing.specs.declared.WriteAnswer.{WriteAnswer}
 use Rattle.writing.specs.declared.WriteAnswer.the-variants.{Written, Refused}

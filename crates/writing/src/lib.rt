@@ -1,4 +1,5 @@
 // An operation is written to its pair of words. Every pin that carries nothing is low (RULES 2.7).
+use basics::Refusal;
 use command::Operation;
 use command::Pair;
 use command::Request;
@@ -17,7 +18,6 @@ use command::pins::PD;
 use command::pins::bit;
 use command::pins::kept;
 use config::Config;
-use config::Refusal;
 use config::Timing;
 use config::TimingAnswer;
 ghost use mathlib.Core.Path.{_≡_};

@@ -6,7 +6,7 @@ use native.Mathlib.Omega.{arith}
 use borrow.Author.Needs.{needs}
 use lib.ListN.{length, getD}
 use denote.Ref.{now}
-use Rattle.config.specs.Outcome.{value}
+use Rattle.basics.specs.Outcome.{value}
 use Rattle.config.specs.declared.Timing.{Timing}
 use Rattle.words.specs.Words.{wordsOf}
 use Rattle.words.proofs.Listed.{words-length, word-listed}

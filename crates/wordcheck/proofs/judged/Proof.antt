@@ -6,7 +6,7 @@ use borrow.Author.Needs.{needs}
 use lib.ListN.{length, drop}
 use denote.Ref.{now}
 use Rattle.rules.specs.Verdict.{judge}
-use Rattle.config.specs.Outcome.{value}
+use Rattle.basics.specs.Outcome.{value}
 use Rattle.rules.proofs.Words.{run, run-is, run-passes, run-breaches, run-ends}
 use Rattle.wordcheck.proofs.judged.Statement.{statement}
 use Rattle.wordcheck.proofs.judged.Tie as tie

@@ -2,7 +2,7 @@
 use Prim.Native.Nat.{ℕ}
 use mathlib.Core.Path.{_≡_, refl, sym, subst}
 use mathlib.Core.Bool.{Bool, true, false}
-use Rattle.config.specs.Outcome.{Outcome, value, refused, require, given}
+use Rattle.basics.specs.Outcome.{Outcome, value, refused, require, given}
 
 abbrev IsValue : {A : Type 0} → Outcome A → Type 0
 IsValue (value a) = Unit {0}

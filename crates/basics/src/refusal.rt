@@ -1,6 +1,6 @@
 // The refusals of the whole product.
 ghost use mathlib.Core.Path.{_≡_};
-ghost use Rattle.config.specs.Numbers.{refusalNumber};
+ghost use Rattle.basics.specs.Numbers.{refusalNumber};
 
 pub enum Refusal {
     // The state has one of the faults of RULES 6.19, which no call gives it: 19.

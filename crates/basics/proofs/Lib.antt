@@ -1,0 +1,2 @@
+-- Facts on outcomes that no single function's proof owns.
+pub mod Outcomes

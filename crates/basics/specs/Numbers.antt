@@ -1,0 +1,19 @@
+-- The number of each refusal.
+use Prim.Native.Nat.{ℕ}
+use Rattle.basics.specs.declared.refusal.Refusal.{Refusal}
+use Rattle.basics.specs.declared.refusal.Refusal.the-variants.{State, Part, Period, Count, InBreach, ClockLimit, InputSize, Field, QueueFull, NotAPair, PartialWord, TooLong}
+
+-- the number behind the dot in section 6 of RULES
+abbrev pub refusalNumber : Refusal → ℕ
+refusalNumber State = 19
+refusalNumber Part = 20
+refusalNumber Period = 21
+refusalNumber Count = 22
+refusalNumber InBreach = 23
+refusalNumber ClockLimit = 24
+refusalNumber InputSize = 25
+refusalNumber Field = 26
+refusalNumber QueueFull = 27
+refusalNumber NotAPair = 28
+refusalNumber PartialWord = 29
+refusalNumber TooLong = 30
