@@ -2,13 +2,13 @@
 mod place;
 mod quick;
 
+use basics::LIMIT;
 use basics::Refusal;
 use config::Config;
 use config::Timing;
 use config::TimingAnswer;
 use place::Place;
 use protocol::Breach;
-use protocol::LIMIT;
 use protocol::Verdict;
 use quick::skimmed;
 use rules::word_breach;

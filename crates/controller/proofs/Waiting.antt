@@ -13,7 +13,7 @@ use Rattle.config.proofs.Bounds.{both}
 use Rattle.config.specs.declared.Timing.{Timing}
 use Rattle.writing.specs.Writing.{requestFits}
 use Rattle.command.specs.declared.operation.Request.{Request}
-use Rattle.protocol.specs.Steps.{clockFits}
+use Rattle.consistency.specs.Consistency.{clockFits}
 use Rattle.controller.specs.States.{vacant}
 use Rattle.scheduler.specs.Pairs.{isOpen, ofOldest}
 use Rattle.controller.specs.Steps.{held, allFit, stateFits}

@@ -13,7 +13,7 @@ use Rattle.command.specs.declared.operation.Request.{Request}
 use Rattle.command.specs.declared.operation.Pair.{Pair}
 use Rattle.stamps.specs.Stamps.{remembered}
 use Rattle.rules.specs.Breaches.{wordBreach}
-use Rattle.protocol.specs.Steps.{clockFits}
+use Rattle.consistency.specs.Consistency.{clockFits}
 use Rattle.stamps.specs.declared.Timestamps.{Timestamps}
 use Rattle.scheduler.specs.Pairs.{pairWords, isOpen, ofOldest, nextPair}
 use Rattle.scheduler.specs.declared.OpenPair.{OpenPair}

@@ -35,7 +35,7 @@ pub(crate) fn state_fits(timing: Timing, controller: Controller) -> bool
     let stamps = controller.stamps;
     let waiting = controller.waiting;
     let count = controller.count;
-    let before = protocol::clock_fits(clock, DESL, stamps);
+    let before = consistency::clock_fits(clock, DESL, stamps);
     let is_open = is_open(opened);
     let of_oldest = of_oldest(opened);
     if !(before & !((clock == 0) & is_open) & (count <= Controller::CAPACITY)) {

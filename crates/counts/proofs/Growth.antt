@@ -1,7 +1,7 @@
 -- One word more: the history is extended by it, and each count grows as `counted` says. Assumes nothing.
 use Prim.Native.Nat.{ℕ, _+_, _-_}
 use mathlib.Core.Path.{_≡_, refl, sym, ap}
-use mathlib.Core.Bool.{Bool, true, not, _&&_, Bool·not-not}
+use mathlib.Core.Bool.{Bool, _&&_, Bool·not-not}
 use mathlib.Core.List.{List, [], _∷_, _++_}
 use mathlib.Core.Option.{Option, none, some}
 use native.Mathlib.Omega.{arith}

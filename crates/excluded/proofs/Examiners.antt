@@ -1,7 +1,6 @@
 -- A check that is not refused gives the judgement, which computes on these traces. A step refuses, or it judges its word. Assumes nothing.
 use Prim.Native.Nat.{ℕ, zero, suc, _+_, _/_, _%_}
 use mathlib.Core.Path.{_≡_, refl, sym, _∙_, ap}
-use mathlib.Core.Bool.{Bool, true, false, cond}
 use mathlib.Core.List.{List, [], _∷_}
 use mathlib.Core.Option.{none}
 use native.Mathlib.Omega.{arith}
@@ -16,7 +15,8 @@ use Rattle.basics.proofs.Outcomes.{refused-value, require-value, given-value}
 use Rattle.words.specs.Words.{wordsOf}
 use Rattle.rules.specs.Verdict.{Judgement, accepted, breach, judgeFrom, judge, checkOf, checkBytesOf}
 use Rattle.rules.specs.Breaches.{wordBreach}
-use Rattle.protocol.specs.Steps.{Step, verdictOutcome, fresh, clockFits, refusing, judged, stepBy, stepOf}
+use Rattle.consistency.specs.Consistency.{clockFits}
+use Rattle.protocol.specs.Steps.{Step, verdictOutcome, fresh, refusing, judged, stepBy, stepOf}
 use Rattle.protocol.specs.declared.checker.Checker.{Checker}
 use Rattle.protocol.specs.declared.checker.Verdict.{Verdict}
 use Rattle.protocol.proofs.Refinement.{cond-case}

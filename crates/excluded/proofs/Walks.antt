@@ -10,7 +10,8 @@ use Rattle.basics.specs.Outcome.{Outcome, value, refused}
 use Rattle.config.specs.Configuration.{timingOf}
 use Rattle.basics.proofs.Outcomes.{refused-value, require-value, given-value}
 use Rattle.rules.specs.Verdict.{Judgement, accepted, breach}
-use Rattle.protocol.specs.Steps.{clockFits, stepOf}
+use Rattle.consistency.specs.Consistency.{clockFits}
+use Rattle.protocol.specs.Steps.{stepOf}
 use Rattle.protocol.specs.declared.checker.Checker.{Checker}
 use Rattle.walks.specs.Walk.{passed, ended, progressOutcome, ofWord, atEnd}
 use Rattle.walks.specs.declared.Progress.{Progress}

@@ -22,7 +22,8 @@ use Rattle.rules.specs.History.{nothing}
 use Rattle.rules.specs.Rules.{breachAt}
 use Rattle.rules.specs.Verdict.{Judgement, accepted, lead, judge, checkOf, checkBytesOf}
 use Rattle.model.specs.CheckerCases.{At, words, startUpPairs, readAt}
-use Rattle.protocol.specs.Steps.{verdictOutcome, stepped, fresh, clockFits, stepOf}
+use Rattle.consistency.specs.Consistency.{clockFits}
+use Rattle.protocol.specs.Steps.{verdictOutcome, stepped, fresh, stepOf}
 use Rattle.protocol.specs.declared.checker.Breach.{Breach}
 use Rattle.protocol.specs.declared.checker.Checker.{Checker}
 use Rattle.protocol.specs.declared.checker.Verdict.{Verdict}

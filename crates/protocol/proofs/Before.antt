@@ -8,13 +8,12 @@ use native.Mathlib.Omega.{arith}
 use native.Mathlib.Nat.{le-refl}
 use borrow.Author.Tests.{lt-ltb, le-leb, ne-eqb}
 use lib.ListN.{getD}
-use lib.Dec.{eqb, leb, ltb}
 use Rattle.rules.specs.History.{ClosedPair}
 use Rattle.rules.specs.Rules.{closings, oldest, wasExtended, wasRegular, wasMode, wasRead, wasWrite, wasRefresh}
 use Rattle.rules.proofs.Newest.{Ordered, latest}
 use Rattle.rules.proofs.Summary.{summary, ofBank, eachBank}
 use Rattle.rules.proofs.Words.{firstOf, Regular, ordered-mono}
-use Rattle.protocol.specs.Steps.{before, eightBefore, stampsBefore, clockFits}
+use Rattle.consistency.specs.Consistency.{before, eightBefore, stampsBefore, clockFits}
 
 -- a number is before the clock, or 0
 abbrev Before : ℕ → ℕ → Type 0

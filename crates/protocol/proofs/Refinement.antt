@@ -18,7 +18,8 @@ use Rattle.rules.specs.History.{ClosedPair, Past, extendBy}
 use Rattle.rules.specs.Verdict.{accepted, breach, judge}
 use Rattle.stamps.specs.Stamps.{nextStamps, nextFirst}
 use Rattle.rules.specs.Breaches.{wordBreach}
-use Rattle.protocol.specs.Steps.{Step, fresh, clockFits, stepBy, stepOf}
+use Rattle.consistency.specs.Consistency.{clockFits}
+use Rattle.protocol.specs.Steps.{Step, fresh, stepBy, stepOf}
 use Rattle.protocol.specs.Refinement.{stepping, afterAll, Refinement}
 use Rattle.stamps.specs.declared.Timestamps.{Timestamps}
 use Rattle.protocol.specs.declared.checker.Checker.{Checker}

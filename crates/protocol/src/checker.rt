@@ -1,17 +1,17 @@
 // The checker (the paper's examiner): a state that takes one word after the other.
+use basics::LIMIT;
 use basics::Refusal;
-use command::pins::CS;
-use command::pins::high;
 use config::Config;
 use config::Timing;
 use config::TimingAnswer;
+use consistency::clock_fits;
 use rules::word_breach;
 use stamps::DESL;
 use stamps::Timestamps;
 use stamps::next_first;
 ghost use mathlib.Core.Path.{_≡_};
 ghost use Prim.Native.Nat.{_<_};
-ghost use Rattle.protocol.specs.Steps.{eightBefore, stampsBefore, clockFits, fresh, stepped, judged, stepBy, stepOf};
+ghost use Rattle.protocol.specs.Steps.{fresh, stepped, judged, stepBy, stepOf};
 ghost use Rattle.basics.specs.Outcome.{value};
 
 // The clock and the number of a breach; number 0 where there is none.
@@ -40,47 +40,6 @@ pub struct Checker {
 pub struct Stepped {
     pub verdict: Verdict,
     pub checker: Checker,
-}
-
-// The traces that are judged have at most this many words.
-pub const LIMIT: u32 = 16777216;
-
-fn eight_before(clock: u32, stamps: [u32; 8]) -> bool
-    ensures { λ r. ⌜ r ≡ eightBefore clock stamps ⌝ }
-{
-    ((stamps[0] == 0) | (stamps[0] < clock))
-        & ((stamps[1] == 0) | (stamps[1] < clock))
-        & ((stamps[2] == 0) | (stamps[2] < clock))
-        & ((stamps[3] == 0) | (stamps[3] < clock))
-        & ((stamps[4] == 0) | (stamps[4] < clock))
-        & ((stamps[5] == 0) | (stamps[5] < clock))
-        & ((stamps[6] == 0) | (stamps[6] < clock))
-        & ((stamps[7] == 0) | (stamps[7] < clock))
-}
-
-// Every event that is remembered is before the clock.
-fn stamps_before(clock: u32, stamps: Timestamps) -> bool
-    ensures { λ r. ⌜ r ≡ stampsBefore clock stamps ⌝ }
-{
-    let banks = stamps.banks;
-    let refs = stamps.refs;
-    let in_banks = eight_before(clock, banks);
-    let in_refs = eight_before(clock, refs);
-    ((stamps.extended == 0) | (stamps.extended < clock))
-        & ((stamps.regular == 0) | (stamps.regular < clock))
-        & ((stamps.mode == 0) | (stamps.mode < clock))
-        & ((stamps.read == 0) | (stamps.read < clock))
-        & ((stamps.write == 0) | (stamps.write < clock))
-        & in_banks
-        & in_refs
-}
-
-// The clock is within its limit, and nothing that is remembered contradicts it (otherwise 19).
-pub fn clock_fits(clock: u32, first: u32, stamps: Timestamps) -> bool
-    ensures { λ r. ⌜ r ≡ clockFits clock first stamps ⌝ }
-{
-    let remembered = stamps_before(clock, stamps);
-    (clock <= LIMIT) & remembered & !((clock == 0) & !high(first, CS))
 }
 
 impl Checker {

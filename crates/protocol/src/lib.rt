@@ -3,7 +3,5 @@ mod checker;
 
 pub use checker::Breach;
 pub use checker::Checker;
-pub use checker::LIMIT;
 pub use checker::Stepped;
 pub use checker::Verdict;
-pub use checker::clock_fits;

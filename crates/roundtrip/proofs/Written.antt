@@ -4,7 +4,7 @@ use mathlib.Core.Path.{_≡_}
 use mathlib.Core.Bool.{Bool, true, false, not}
 use native.Mathlib.Omega.{arith}
 use borrow.Author.Tests.{lt-leb}
-use Rattle.command.specs.Pins.{pins, high, put, drive, level, strayBit}
+use Rattle.command.specs.Pins.{pins, high, put, drive, strayBit}
 use Rattle.roundtrip.proofs.Levels.{level-bound, high-is}
 
 -- RDA or WRA

@@ -18,7 +18,8 @@ use Rattle.basics.proofs.Outcomes.{refused-value, same-number}
 use Rattle.config.proofs.Accepted.{config-19}
 use Rattle.rules.specs.Verdict.{Judgement, accepted, breach}
 use Rattle.rules.specs.Breaches.{wordBreach}
-use Rattle.protocol.specs.Steps.{Step, fresh, clockFits, refusing, stepBy, stepOf}
+use Rattle.consistency.specs.Consistency.{clockFits}
+use Rattle.protocol.specs.Steps.{Step, fresh, refusing, stepBy, stepOf}
 use Rattle.protocol.specs.Refinement.{follow, stepping, afterAll}
 use Rattle.protocol.specs.declared.checker.Checker.{Checker}
 use Rattle.protocol.proofs.Refinement.{refinement}

@@ -11,7 +11,8 @@ use Rattle.config.specs.Configuration.{timingOf}
 use Rattle.config.specs.declared.Config.{Config}
 use Rattle.config.specs.declared.Timing.{Timing}
 use Rattle.rules.specs.Verdict.{Judgement, accepted, breach, judge}
-use Rattle.protocol.specs.Steps.{Step, fresh, clockFits, stepOf}
+use Rattle.consistency.specs.Consistency.{clockFits}
+use Rattle.protocol.specs.Steps.{Step, fresh, stepOf}
 use Rattle.protocol.specs.declared.checker.Checker.{Checker}
 use Rattle.walks.specs.declared.Moved.{Moved}
 use Rattle.walks.specs.declared.Progress.{Progress}

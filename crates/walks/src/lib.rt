@@ -1,10 +1,10 @@
 // One advance of a walk over lent words (RULES 5.5), for whoever holds the words and the checker that it has reached.
 use basics::Refusal;
 use config::TimingAnswer;
+use consistency::clock_fits;
 use protocol::Breach;
 use protocol::Checker;
 use protocol::Verdict;
-use protocol::clock_fits;
 ghost use mathlib.Core.Path.{_≡_};
 ghost use Rattle.protocol.specs.Steps.{verdictOutcome};
 ghost use Rattle.walks.specs.Walk.{progressOutcome, ofWord, atEnd, MovePromised};

@@ -1,10 +1,10 @@
 // The whole check of a trace: one pass, and nothing tested inside it that the door has tested.
+use basics::LIMIT;
 use basics::Refusal;
 use config::Config;
 use config::Timing;
 use config::TimingAnswer;
 use protocol::Breach;
-use protocol::LIMIT;
 use protocol::Verdict;
 use rules::word_breach;
 use stamps::DESL;

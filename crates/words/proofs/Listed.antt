@@ -5,7 +5,6 @@ use mathlib.Core.List.{List, [], _∷_}
 use native.Mathlib.Omega.{arith}
 use borrow.Author.Tests.{lt-ltb}
 use lib.ListN.{length, getD}
-use lib.Dec.{ltb}
 use Rattle.words.specs.Words.{wordBy, wordsOf, wordAt}
 
 pub words-length : (bytes : List ℕ) → length (wordsOf bytes) ≡ length bytes / 4

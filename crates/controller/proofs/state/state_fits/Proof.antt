@@ -6,7 +6,7 @@ use lib.Dec.{eqb, leb}
 use borrow.Author.Tests.{not-true, not-false, leb-true}
 use borrow.Author.Needs.{needs}
 use Rattle.config.proofs.Bounds.{both}
-use Rattle.protocol.specs.Steps.{clockFits}
+use Rattle.consistency.specs.Consistency.{clockFits}
 use Rattle.scheduler.specs.Pairs.{isOpen}
 use Rattle.controller.specs.declared.Controller.{Controller}
 use Rattle.controller.proofs.state.state_fits.Statement.{statement}

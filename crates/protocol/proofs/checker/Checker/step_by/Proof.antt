@@ -6,7 +6,7 @@ use lib.Dec.{eqb, ltb}
 use native.Mathlib.Omega.{arith}
 use borrow.Author.Tests.{not-true, not-false, eq-eqb, ne-eqb, lt-ltb, le-ltb}
 use borrow.Author.Needs.{needs}
-use Rattle.protocol.specs.Steps.{clockFits}
+use Rattle.consistency.specs.Consistency.{clockFits}
 use Rattle.protocol.proofs.checker.Checker.step_by.Statement.{statement}
 use Rattle.protocol.proofs.checker.Checker.step_by.Tie as tie
 

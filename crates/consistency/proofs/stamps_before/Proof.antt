@@ -1,7 +1,7 @@
 -- The two arrays are their leaf's. Assumes nothing.
 use borrow.Author.Needs.{needs}
-use Rattle.protocol.proofs.checker.stamps_before.Statement.{statement}
-use Rattle.protocol.proofs.checker.stamps_before.Tie as tie
+use Rattle.consistency.proofs.stamps_before.Statement.{statement}
+use Rattle.consistency.proofs.stamps_before.Tie as tie
 
 eight-before-requires : tie.Need-eight-before-requires
 eight-before-requires c κs = search needs

@@ -1,7 +1,7 @@
 -- The events are their leaf's, and CS is. Assumes nothing.
 use borrow.Author.Needs.{needs}
-use Rattle.protocol.proofs.checker.clock_fits.Statement.{statement}
-use Rattle.protocol.proofs.checker.clock_fits.Tie as tie
+use Rattle.consistency.proofs.clock_fits.Statement.{statement}
+use Rattle.consistency.proofs.clock_fits.Tie as tie
 
 stamps-before-requires : tie.Need-stamps-before-requires
 stamps-before-requires c κs = search needs
