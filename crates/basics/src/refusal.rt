@@ -27,6 +27,8 @@ pub enum Refusal {
     PartialWord,
     // More than 65,536 words to count: 30.
     TooLong,
+    // REFC below 18 at CL 4: 33.
+    ShortRefresh,
 }
 
 impl Refusal {
@@ -47,6 +49,7 @@ impl Refusal {
             Refusal::NotAPair => 28,
             Refusal::PartialWord => 29,
             Refusal::TooLong => 30,
+            Refusal::ShortRefresh => 33,
         }
     }
 }

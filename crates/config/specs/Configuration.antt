@@ -1,9 +1,9 @@
 -- The sheet (RULES 1): the range of each number, and the figures that an accepted sheet yields.
 use Prim.Native.Nat.{ℕ, _+_, _-_, _/_, max}
-use mathlib.Core.Bool.{Bool, cond, _&&_, _||_}
+use mathlib.Core.Bool.{Bool, cond, not, _&&_, _||_}
 use mathlib.Core.List.{List, [], _∷_}
 use lib.ListN.{getD}
-use lib.Dec.{eqb, leb}
+use lib.Dec.{eqb, leb, ltb}
 use Rattle.basics.specs.Outcome.{Outcome, value, require}
 use Rattle.config.specs.declared.Config.{Config}
 use Rattle.config.specs.declared.Timing.{Timing}
@@ -45,6 +45,10 @@ countsFit c =
     && within 2 15 (c .rsc .0)
     && within 15 63 (c .refc .0)
 
+-- REFC is not below 18 at CL 4 (RULES 1.1)
+abbrev pub refreshFits : Config → Bool
+refreshFits c = not (eqb (c .cl) 4 && ltb (c .refc .0) 18)
+
 -- RC by CL: the spacing of two reads or writes of one bank (RULES 1.3)
 abbrev pub rcOf : ℕ → ℕ
 rcOf cl = cond (eqb cl 5) 6 5
@@ -72,9 +76,13 @@ derived c =
       spacing = spacingOf (rcOf (c .cl)) (c .rbd .0) (c .rwd .0) (c .wrd .0);
     }
 
--- the figures of a sheet, or refusal 20, 21 or 22, tried in this order (RULES 6.20 to 6.22)
+-- the figures of a sheet, or refusal 20, 21, 22 or 33, tried in this order (RULES 7.1)
 abbrev pub timingOf : Config → Outcome Timing
-timingOf c = require (partFits c) 20 (require (periodFits c) 21 (require (countsFit c) 22 (value (derived c))))
+timingOf c =
+    require (partFits c) 20
+    (require (periodFits c) 21
+    (require (countsFit c) 22
+    (require (refreshFits c) 33 (value (derived c)))))
 
 -- sheet E (RULES 1.4)
 abbrev pub institute : Config

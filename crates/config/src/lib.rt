@@ -5,7 +5,7 @@ use basics::Refusal;
 use basics::choose;
 ghost use mathlib.Core.Path.{_≡_};
 ghost use Prim.Native.Nat.{_≤_, _<_, max};
-ghost use Rattle.config.specs.Configuration.{leastPeriod, partFits, periodFits, countsFit, derived, timingOf, institute, configOf};
+ghost use Rattle.config.specs.Configuration.{leastPeriod, partFits, periodFits, countsFit, refreshFits, derived, timingOf, institute, configOf};
 ghost use Rattle.config.specs.Answers.{timingOutcome};
 
 // A time in whole picoseconds: a type of its own, so that it is never taken for a count of clocks.
@@ -149,6 +149,12 @@ impl Config {
             & ((15 <= self.refc.0) & (self.refc.0 <= 63))
     }
 
+    fn refresh_fits(self) -> bool
+        ensures { λ r. ⌜ r ≡ refreshFits self ⌝ }
+    {
+        !((self.cl == 4) & (self.refc.0 < 18))
+    }
+
     fn derived(self) -> Timing
         requires { ⌜ (0 < self .cl) × (0 < self .period .0) ⌝ }
         requires { ⌜ (self .rwd .0 ≤ 7) × (self .wrd .0 ≤ 7) ⌝ }
@@ -174,7 +180,7 @@ impl Config {
         }
     }
 
-    // The timing of an accepted configuration, or the refusal: 20, 21 and 22, tried in this order.
+    // The timing of an accepted configuration, or the refusal: 20, 21, 22 and 33, tried in this order.
     pub fn timing(self) -> TimingAnswer
         ensures { λ r. ⌜ timingOutcome r ≡ timingOf self ⌝ }
     {
@@ -186,6 +192,9 @@ impl Config {
         }
         if !self.counts_fit() {
             return TimingAnswer::Refused(Refusal::Count);
+        }
+        if !self.refresh_fits() {
+            return TimingAnswer::Refused(Refusal::ShortRefresh);
         }
         TimingAnswer::Accepted(self.derived())
     }

@@ -10,7 +10,7 @@ use Rattle.config.specs.Answers.{timingOutcome}
 use Rattle.config.specs.declared.Timing.{Timing}
 use Rattle.config.specs.declared.TimingAnswer.{TimingAnswer}
 use Rattle.basics.specs.declared.refusal.Refusal.{Refusal}
-use Rattle.basics.specs.declared.refusal.Refusal.the-variants.{State, Part, Period, Count, InBreach, ClockLimit, InputSize, Field, QueueFull, NotAPair, PartialWord, TooLong}
+use Rattle.basics.specs.declared.refusal.Refusal.the-variants.{State, Part, Period, Count, InBreach, ClockLimit, InputSize, Field, QueueFull, NotAPair, PartialWord, TooLong, ShortRefresh}
 use Rattle.reading.specs.Answers.{readOutcome}
 use Rattle.writing.specs.Answers.{writeOutcome}
 use Rattle.command.specs.declared.operation.Operation.{Operation}
@@ -48,6 +48,9 @@ refusals =
     ∷ some NotAPair
     ∷ some PartialWord
     ∷ some TooLong
+    ∷ none
+    ∷ none
+    ∷ some ShortRefresh
     ∷ []
 
 abbrev named : ℕ → Option Refusal
@@ -66,6 +69,7 @@ named-is QueueFull = refl
 named-is NotAPair = refl
 named-is PartialWord = refl
 named-is TooLong = refl
+named-is ShortRefresh = refl
 
 abbrev orState : Option Refusal → Refusal
 orState none = State

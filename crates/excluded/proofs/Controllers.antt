@@ -130,7 +130,7 @@ controllers =
       offer-27 =
           λ s after q h.
           no-offer s after q (CallAnswer.Refused QueueFull)
-          (behind-config (s .config) 27 (offerAnswer s q) (omega arith)
+          (behind-config (s .config) 27 (offerAnswer s q) (omega arith) (omega arith)
           (λ t. require-not (stateFits t s) 19 27 _ (λ e. omega arith)
           (require-not (requestFits t q) 26 27 _ (λ e. omega arith) (rw (lt-ltb (s .count) 16 (omega arith)) (value-not 27 tt)))));
       offer-26 =
@@ -142,7 +142,7 @@ controllers =
       tick-24 =
           λ s after word h.
           no-tick s after word (CallAnswer.Refused ClockLimit)
-          (behind-config (s .config) 24 (tickAnswer s) (omega arith)
+          (behind-config (s .config) 24 (tickAnswer s) (omega arith) (omega arith)
           (λ t. require-not (stateFits t s) 19 24 _ (λ e. omega arith) (rw (lt-ltb (s .clock) 16777216 (omega arith)) (value-not 24 tt))));
       offer-past-27 =
           λ s after q h.

@@ -4,7 +4,7 @@ use borrow.Author.Tests.{not-true, not-false}
 use mathlib.Core.Path.{_≡_, sym, _∙_}
 use mathlib.Core.Bool.{true}
 use native.Mathlib.Omega.{arith}
-use Rattle.config.specs.Configuration.{partFits, periodFits, countsFit}
+use Rattle.config.specs.Configuration.{partFits, periodFits, countsFit, refreshFits}
 use Rattle.config.proofs.Bounds.{cl-bounds, count-bounds, period-bounds}
 use Rattle.config.proofs.Config.timing.Statement.{statement}
 use Rattle.config.proofs.Config.timing.Tie as tie
@@ -18,6 +18,9 @@ period c = sym (c .before .period-fits .ensures) ∙ not-false _ (c .if2 .left)
 
 counts : (c : tie.Else3) → countsFit (c .before .before .before .before .before .before .args .self) ≡ true
 counts c = sym (c .before .counts-fit .ensures) ∙ not-false _ (c .if3 .left)
+
+refresh : (c : tie.Else4) → refreshFits (c .before .before .before .before .before .before .before .before .args .self) ≡ true
+refresh c = sym (c .before .refresh-fits .ensures) ∙ not-false _ (c .if4 .left)
 
 part-fits-requires : tie.Need-part-fits-requires
 part-fits-requires c κs = search needs
@@ -39,19 +42,27 @@ returns-3 c =
     rw
     (part (c .before .before .before .before), period (c .before .before), ← c .before .counts-fit .ensures, not-true (c .before .counts-fit .result) (c .if3 .taken))
 
-derived-requires : tie.Need-derived-requires
-derived-requires c κs =
-    let self = c .before .before .before .before .before .before .args .self in
-    let p = part (c .before .before .before .before) in
-    let cl = cl-bounds self p in
-    let ps = period-bounds self p (period (c .before .before)) in
-    let n = count-bounds self (counts c) in
-    omega arith
+refresh-fits-requires : tie.Need-refresh-fits-requires
+refresh-fits-requires c κs = search needs
 
 returns-4 : tie.Need-returns-4
 returns-4 c =
     rw
-    (c .derived .ensures, part (c .before .before .before .before .before), period (c .before .before .before), counts (c .before))
+    (part (c .before .before .before .before .before .before), period (c .before .before .before .before), counts (c .before .before), ← c .before .refresh-fits .ensures, not-true (c .before .refresh-fits .result) (c .if4 .taken))
+
+derived-requires : tie.Need-derived-requires
+derived-requires c κs =
+    let self = c .before .before .before .before .before .before .before .before .args .self in
+    let p = part (c .before .before .before .before .before .before) in
+    let cl = cl-bounds self p in
+    let ps = period-bounds self p (period (c .before .before .before .before)) in
+    let n = count-bounds self (counts (c .before .before)) in
+    omega arith
+
+returns-5 : tie.Need-returns-5
+returns-5 c =
+    rw
+    (c .derived .ensures, part (c .before .before .before .before .before .before .before), period (c .before .before .before .before .before), counts (c .before .before .before), refresh (c .before))
 
 pub timing-spec : {M : Type 1} → statement M
 timing-spec =
@@ -63,5 +74,7 @@ timing-spec =
     returns-2
     counts-fit-requires
     returns-3
+    refresh-fits-requires
+    returns-4
     derived-requires
-    returns-4)
+    returns-5)

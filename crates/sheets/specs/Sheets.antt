@@ -1,0 +1,50 @@
+-- Refused sheets: every call on one refuses as the test of the sheet does, and changes nothing; and which sheets 33 is for.
+use Prim.Native.Nat.{ℕ, _<_}
+use mathlib.Core.Path.{_≡_}
+use mathlib.Core.Bool.{true}
+use mathlib.Core.List.{List}
+use Rattle.basics.specs.Outcome.{refused}
+use Rattle.config.specs.Configuration.{partFits, periodFits, countsFit, timingOf}
+use Rattle.config.specs.declared.Config.{Config}
+use Rattle.command.specs.declared.operation.Operation.{Operation}
+use Rattle.command.specs.declared.operation.Pair.{Pair}
+use Rattle.command.specs.declared.operation.Request.{Request}
+use Rattle.reading.specs.Reading.{readPair}
+use Rattle.writing.specs.Writing.{writePair}
+use Rattle.rules.specs.Verdict.{checkOf, checkBytesOf}
+use Rattle.fcram.specs.Number.{numberOf}
+use Rattle.protocol.specs.Steps.{refusing, stepOf}
+use Rattle.protocol.specs.declared.checker.Checker.{Checker}
+use Rattle.walks.specs.Walk.{staying, moveOf}
+use Rattle.controller.specs.Steps.{notOffered, notTicked, offerOf, tickOf}
+use Rattle.controller.specs.declared.Controller.{Controller}
+
+-- no number before 33 applies, CL is 4 and REFC is below 18 (RULES 6.33)
+pub record ShortRefresh (c : Config) : Type 0 where
+  pub part : partFits c ≡ true
+  pub period : periodFits c ≡ true
+  pub counts : countsFit c ≡ true
+  pub cl : c .cl ≡ 4
+  pub refc : c .refc .0 < 18
+
+-- the sheet is refused by n wherever it is handed over, and wherever a state holds it, whatever else stands there; the state stays
+pub record RefusedBy (n : ℕ) (c : Config) : Type 0 where
+  pub read : (p : Pair) → readPair c p ≡ refused n
+  pub write : (o : Operation) → writePair c o ≡ refused n
+  pub check : (words : List ℕ) → checkOf c words ≡ refused n
+  pub check-bytes : (bytes : List ℕ) → checkBytesOf c bytes ≡ refused n
+  -- the exam site's number
+  pub site : (bytes : List ℕ) → numberOf (checkBytesOf c bytes) ≡ n
+  pub step : (s : Checker) (w : ℕ) → s .config ≡ c → stepOf s w ≡ refusing s n
+  pub advance : (s : Checker) (words : List ℕ) → s .config ≡ c → moveOf s words ≡ staying s (refused n)
+  -- of both forms of the call
+  pub offer : (s : Controller) (q : Request) → s .config ≡ c → offerOf s q ≡ notOffered s n
+  pub tick : (s : Controller) → s .config ≡ c → tickOf s ≡ notTicked s n
+
+-- the theorem
+pub record Sheets : Type 0 where
+  -- 33 is for these sheets, and for no other
+  pub short : (c : Config) → ShortRefresh c → timingOf c ≡ refused 33
+  pub only-short : (c : Config) → timingOf c ≡ refused 33 → ShortRefresh c
+  -- what a sheet is refused by, each call on it is
+  pub everywhere : (c : Config) (n : ℕ) → timingOf c ≡ refused n → RefusedBy n c
