@@ -1,11 +1,11 @@
 -- Each call's definition asks the sheet first, and goes on only with its figures. Of the tests in a row, the one that fails is read off the
 -- number. Assumes nothing.
-use Prim.Native.Nat.{ℕ, _<_}
+use Prim.Native.Nat.{ℕ}
 use mathlib.Core.Path.{_≡_, refl, sym, _∙_, ap}
-use mathlib.Core.Bool.{Bool, true, false, cond, not, _&&_}
+use mathlib.Core.Bool.{Bool, true, false, cond}
 use mathlib.Core.List.{List}
 use native.Mathlib.Omega.{arith}
-use borrow.Author.Tests.{eq-eqb, lt-ltb, eqb-true, ltb-true, not-true, not-false}
+use borrow.Author.Tests.{eq-eqb, lt-ltb, eqb-true, ltb-true, not-false}
 use lib.ListN.{length}
 use lib.Dec.{eqb, ltb}
 use Rattle.basics.specs.Outcome.{Outcome, value, refused, require, given}
@@ -17,9 +17,9 @@ use Rattle.config.proofs.Bounds.{both}
 use Rattle.command.specs.declared.operation.Request.{Request}
 use Rattle.fcram.specs.Number.{numberOf}
 use Rattle.rules.specs.Verdict.{checkBytesOf}
-use Rattle.protocol.specs.Steps.{refusing, stepBy, stepOf}
+use Rattle.protocol.specs.Steps.{refusing, stepBy}
 use Rattle.protocol.specs.declared.checker.Checker.{Checker}
-use Rattle.walks.specs.Walk.{Move, staying, examined, moveOf}
+use Rattle.walks.specs.Walk.{Move, staying, examined}
 use Rattle.controller.specs.Steps.{notOffered, notTicked, offerBy, tickBy}
 use Rattle.controller.specs.declared.Controller.{Controller}
 use Rattle.sheets.specs.Sheets.{ShortRefresh, RefusedBy, Sheets}
@@ -74,8 +74,15 @@ last-of-four true true false f x e = absurd (refused-by (λ q. omega arith) e)
 last-of-four true false d f x e = absurd (refused-by (λ q. omega arith) e)
 last-of-four false b d f x e = absurd (refused-by (λ q. omega arith) e)
 
+-- and the other way round
+fails-last : {A : Type 0} {a b d f : Bool} (x : A) → a ≡ true → b ≡ true → d ≡ true → f ≡ false
+    → require a 20 (require b 21 (require d 22 (require f 33 (value x)))) ≡ refused 33
+fails-last x p q r s = rw (p, q, r, s)
+
 short : (c : Config) → ShortRefresh c → timingOf c ≡ refused 33
-short c s = rw (s .part, s .period, s .counts, eq-eqb (c .cl) 4 (s .cl), lt-ltb (c .refc .0) 18 (s .refc))
+short c s =
+    let below : refreshFits c ≡ false = rw (eq-eqb (c .cl) 4 (s .cl), lt-ltb (c .refc .0) 18 (s .refc)) in
+    fails-last (derived c) (s .part) (s .period) (s .counts) below
 
 only-short : (c : Config) → timingOf c ≡ refused 33 → ShortRefresh c
 only-short c e =
