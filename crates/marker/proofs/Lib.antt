@@ -1,2 +1,2 @@
--- Joining the digits of a number.
-pub mod Joined
+-- The text of a line that is written piece by piece.
+pub mod Written

@@ -1,3 +1,2 @@
 -- What the program writes, as a function of what it read.
-pub mod Text
 pub mod Mark

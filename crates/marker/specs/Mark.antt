@@ -3,10 +3,10 @@ use Prim.Native.Nat.{ℕ, _/_}
 use mathlib.Core.List.{List, [], _∷_, _++_}
 use lib.ListN.{length}
 use lib.Dec.{leb}
+use Rattle.line.specs.Text.{decimal}
 use Rattle.basics.specs.Outcome.{Outcome, value, refused, require}
 use Rattle.config.specs.Configuration.{institute}
 use Rattle.rules.specs.Verdict.{Judgement, accepted, breach, checkBytesOf}
-use Rattle.marker.specs.Text.{decimal}
 
 -- the verdict on sheet E: 25 for more than 65,536 bytes, then 29 for no multiple of four (RULES 7.1)
 abbrev pub markOf : List ℕ → Outcome Judgement

@@ -1,6 +1,11 @@
 -- Piece by piece. Assumes nothing.
+use mathlib.Core.List.{[], _∷_}
 use native.Mathlib.Omega.{arith}
 use borrow.Author.Needs.{needs}
+use Rattle.line.specs.Text.{decimal}
+use Rattle.line.proofs.Digits.{decimal-length}
+use Rattle.marker.specs.Mark.{breachText}
+use Rattle.marker.proofs.Written.{five-pieces}
 use Rattle.marker.proofs.mark.in_breach.Statement.{statement}
 use Rattle.marker.proofs.mark.in_breach.Tie as tie
 
@@ -27,15 +32,20 @@ push-requires-2 c κs = search needs
 
 returns : tie.Need-returns
 returns c =
-    let empty = c .before .before .before .before .before .before .empty .ensures in
-    let word = c .before .before .before .before .piece .ensures in
-    let clock = c .before .before .before .number .ensures in
-    let blank = c .before .before .push .ensures in
-    let number = c .before .number2 .ensures in
-    let feed = c .push2 .ensures in (
-      rw (feed .0, number .0, blank .0, clock .0, word .0, empty .0),
-      omega (arith, feed .1, number .1, blank .1, clock .1, word .1, empty .1),
-    )
+    let a = c .before .before .before .before .before .before .before .args in
+    five-pieces
+    breachText
+    (decimal (a .clock))
+    (32 ∷ [])
+    (decimal (a .number))
+    (10 ∷ [])
+    (omega (arith, decimal-length (a .clock), decimal-length (a .number)))
+    (c .before .before .before .before .before .before .empty .ensures)
+    (c .before .before .before .before .piece .ensures)
+    (c .before .before .before .number .ensures)
+    (c .before .before .push .ensures)
+    (c .before .number2 .ensures)
+    (c .push2 .ensures)
 
 pub in-breach-spec : {M : Type 1} → statement M
 in-breach-spec =

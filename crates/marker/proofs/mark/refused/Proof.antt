@@ -1,6 +1,11 @@
 -- Piece by piece. Assumes nothing.
+use mathlib.Core.List.{[], _∷_}
 use native.Mathlib.Omega.{arith}
 use borrow.Author.Needs.{needs}
+use Rattle.line.specs.Text.{decimal}
+use Rattle.line.proofs.Digits.{decimal-length}
+use Rattle.marker.specs.Mark.{refusedText}
+use Rattle.marker.proofs.Written.{three-pieces}
 use Rattle.marker.proofs.mark.refused.Statement.{statement}
 use Rattle.marker.proofs.mark.refused.Tie as tie
 
@@ -21,11 +26,12 @@ push-requires c κs = search needs
 
 returns : tie.Need-returns
 returns c =
+    let n = c .before .before .before .before .before .args .why in
     let empty = c .before .before .before .before .empty .ensures in
     let word = c .before .before .piece .ensures in
     let number = c .before .number .ensures in
     let feed = c .push .ensures in
-    (rw (feed .0, number .0, word .0, empty .0), omega (arith, feed .1, number .1, word .1, empty .1))
+    three-pieces refusedText (decimal n) (10 ∷ []) (omega (arith, decimal-length n)) empty word number feed
 
 pub refused-spec : {M : Type 1} → statement M
 refused-spec =

@@ -1,10 +1,7 @@
 -- By the test. Assumes nothing.
-use mathlib.Core.Path.{sym}
-use mathlib.Core.List.{append-nil}
-use native.Mathlib.Omega.{arith}
 use borrow.Author.Needs.{needs}
-use Rattle.marker.proofs.line.Line.digit.Statement.{statement}
-use Rattle.marker.proofs.line.Line.digit.Tie as tie
+use Rattle.line.proofs.Line.digit.Statement.{statement}
+use Rattle.line.proofs.Line.digit.Tie as tie
 
 cast-push : tie.Need-cast-push
 cast-push c = search needs
@@ -16,10 +13,10 @@ push-requires : tie.Need-push-requires
 push-requires c κs = search needs
 
 returns : tie.Need-returns
-returns c = (rw (c .push .ensures .0, c .before .if1 .taken), omega arith)
+returns c = rw (c .push .ensures, c .before .if1 .taken)
 
 returns-2 : tie.Need-returns-2
-returns-2 c = (rw (c .if1 .left) (sym (append-nil _)), omega arith)
+returns-2 c = rw (c .if1 .left)
 
 pub digit-spec : {M : Type 1} → statement M
 digit-spec = tie.close (tie.spec cast-push add-push push-requires returns returns-2)

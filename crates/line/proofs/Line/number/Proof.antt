@@ -1,24 +1,23 @@
--- The invariant: the text, with the digits of the powers that are left, is the old text with the number. Assumes nothing.
-use Prim.Native.Nat.{_+_, _-_, _≤_}
-use mathlib.Core.Path.{_≡_, refl, _∙_, ap}
-use mathlib.Core.List.{_++_}
+-- The invariant: the line, with the digits of the powers that are left, is the first one with the number. Assumes nothing.
+use Prim.Native.Nat.{_-_, _≤_}
+use mathlib.Core.Path.{_≡_, refl, _∙_}
 use native.Mathlib.Omega.{arith}
 use lib.ListN.{drop}
-use Rattle.marker.specs.Text.{text, digits, powers, decimal}
-use Rattle.marker.proofs.Joined.{one-more, positive}
+use Rattle.line.specs.Lines.{appended}
+use Rattle.line.specs.Text.{digits, powers, decimal}
+use Rattle.line.proofs.Digits.{one-more, positive}
 use borrow.Author.Needs.{needs}
-use Rattle.marker.proofs.line.Line.number.Statement.{statement}
-use Rattle.marker.proofs.line.Line.number.Tie as tie
+use Rattle.line.proofs.Line.number.Statement.{statement}
+use Rattle.line.proofs.Line.number.Tie as tie
 
 abbrev Inv-loop : tie.InvT-loop
-Inv-loop n line₀ i₀ line i =
-    (i ≤ 9) × (line .len ≤ line₀ .len + i) × (text line ++ digits (drop i powers) n ≡ text line₀ ++ decimal n)
+Inv-loop n line₀ i₀ line i = (i ≤ 9) × (appended line (digits (drop i powers) n) ≡ appended line₀ (decimal n))
 
 abbrev μ-loop : tie.MeasureT-loop
 μ-loop n line₀ i₀ line i = 9 - i
 
 loop-holds : tie.Need-loop-holds Inv-loop μ-loop
-loop-holds c = (search needs, search needs, refl)
+loop-holds c = (search needs, refl)
 
 mul-power : tie.Need-mul-power Inv-loop μ-loop
 mul-power c = search needs
@@ -27,7 +26,7 @@ array-read-power : tie.Need-array-read-power Inv-loop μ-loop
 array-read-power c = search needs
 
 div-digit : tie.Need-div-digit Inv-loop μ-loop
-div-digit c = positive (c .before .loop .i) (c .loop-test .taken)
+div-digit c = positive powers (search needs) (c .before .loop .i) (c .loop-test .taken)
 
 digit-requires : tie.Need-digit-requires Inv-loop μ-loop
 digit-requires c κs = search needs
@@ -42,9 +41,8 @@ loop-again : tie.Need-loop-again Inv-loop μ-loop
 loop-again c =
     let l = c .before .before .loop in
     let n = c .before .before .before .args .n in
-    let step = ap (λ t. t ++ digits (drop (l .i + 1) powers) n) (c .digit .ensures .0) in
-    let joined = one-more (text (l .line)) n (l .i) (c .before .loop-test .taken) in
-    (search needs, omega (arith, c .digit .ensures .1, l .inv .1), step ∙ joined ∙ l .inv .2)
+    let more = one-more (l .line) n (l .i) (c .before .loop-test .taken) in
+    (search needs, rw (c .digit .ensures) (more ∙ l .inv .1))
 
 cast-push : tie.Need-cast-push Inv-loop μ-loop
 cast-push c = search needs
@@ -59,7 +57,7 @@ returns : tie.Need-returns Inv-loop μ-loop
 returns c =
     let l = c .before .before .loop in
     let all : l .i ≡ 9 = omega (arith, l .inv .0, c .before .loop-test .left) in
-    (c .push .ensures .0 ∙ rw all at (l .inv .2), omega (arith, c .push .ensures .1, l .inv .1, all))
+    c .push .ensures ∙ rw all at (l .inv .1)
 
 pub number-spec : {M : Type 1} → statement M
 number-spec =

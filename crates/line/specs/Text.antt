@@ -4,7 +4,7 @@ use mathlib.Core.Bool.{cond}
 use mathlib.Core.List.{List, [], _∷_, _++_}
 use lib.ListN.{take}
 use lib.Dec.{leb}
-use Rattle.marker.specs.declared.line.Line.{Line}
+use Rattle.line.specs.declared.Line.{Line}
 
 -- what a line holds
 abbrev pub text : Line → List ℕ

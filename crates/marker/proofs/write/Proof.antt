@@ -4,8 +4,8 @@ use native.Mathlib.Omega.{arith}
 use lib.ListN.{length}
 use lib.Seq.{length-take-le}
 use borrow.Author.Needs.{needs}
-use Rattle.marker.proofs.line.write.Statement.{statement}
-use Rattle.marker.proofs.line.write.Tie as tie
+use Rattle.marker.proofs.write.Statement.{statement}
+use Rattle.marker.proofs.write.Tie as tie
 
 array-share-prefix-bytes : tie.Need-array-share-prefix-bytes
 array-share-prefix-bytes c =

@@ -1,0 +1,3 @@
+-- What a line holds, and how it grows.
+pub mod Lines
+pub mod Text
