@@ -1,7 +1,5 @@
--- EitherForm: demand 3 for calls of either form. Excluded: what wrong programs would give. What proofs by hand have in common: Behind, a
--- struct behind a `&mut`; Lending, a local that is lent; Locals, a function's locals.
-pub mod EitherForm
-pub mod Excluded
+-- What proofs by hand have in common: Locals, a function's locals; Behind, a struct behind a `&mut`; LentLocal, a local that is lent, for
+-- the walks of `lending`.
 pub mod Locals
 pub mod Behind
-pub mod Lending
+pub mod LentLocal

@@ -1,3 +1,2 @@
--- Lists of calls, by value and on a borrowed controller; and results that the contracts exclude.
-pub mod EitherForm
-pub mod Excluded
+-- What the calls on a borrowed controller promise.
+pub mod Promised

@@ -2,11 +2,7 @@
 use command::Request;
 use controller::CallAnswer;
 use controller::Controller;
-use controller::Offered;
-use controller::Ticked;
-ghost use mathlib.Core.Path.{_≡_};
-ghost use Rattle.controller.specs.Steps.{offered, offerOf, ticked, tickOf};
-ghost use Rattle.borrowed.specs.EitherForm.{OfferPromised, TickPromised};
+ghost use Rattle.borrowed.specs.Promised.{OfferPromised, TickPromised};
 
 // A refused tick gives word 0.
 pub struct Given {
@@ -32,24 +28,5 @@ pub fn tick(controller: &mut Controller) -> Given
     Given {
         answer: ticked.answer,
         word: ticked.word,
-    }
-}
-
-// The same calls on a controller that is passed by value and lent for the call, for callers that lend none.
-pub fn offer_through(mut controller: Controller, request: Request) -> Offered
-    ensures { λ r. ⌜ offered r ≡ offerOf controller request ⌝ }
-{
-    let answer = offer(&mut controller, request);
-    Offered { answer, controller }
-}
-
-pub fn tick_through(mut controller: Controller) -> Ticked
-    ensures { λ r. ⌜ ticked r ≡ tickOf controller ⌝ }
-{
-    let given = tick(&mut controller);
-    Ticked {
-        answer: given.answer,
-        word: given.word,
-        controller,
     }
 }

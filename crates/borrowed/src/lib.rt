@@ -3,6 +3,4 @@ mod calls;
 
 pub use calls::Given;
 pub use calls::offer;
-pub use calls::offer_through;
 pub use calls::tick;
-pub use calls::tick_through;

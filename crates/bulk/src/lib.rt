@@ -8,7 +8,7 @@ use counting::counts_of;
 use counting::number_of;
 use counting::store;
 use counts::count_commands;
-use cursor::advance_through;
+use lending::advance_through;
 use number::of_progress;
 use number::of_verdict;
 use walk::walk;

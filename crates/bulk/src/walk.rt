@@ -1,6 +1,6 @@
 // A walk that is advanced until it does not pass.
 use config::Config;
-use cursor::advance_through;
+use lending::advance_through;
 use protocol::Checker;
 use walks::Moved;
 use walks::Progress;

@@ -1,10 +1,8 @@
 // A walk over lent words (RULES 5.5): an advance judges the next one.
 use config::Config;
 use protocol::Checker;
-use walks::Moved;
 use walks::Progress;
 use walks::next_word;
-ghost use Rattle.walks.specs.Walk.{MovePromised};
 ghost use Rattle.cursor.specs.Cursor.{AdvancePromised, NewPromised};
 
 // The words stay the caller's; the clock that the walk has reached is the checker's.
@@ -28,17 +26,4 @@ pub fn advance<'s, 'a>(cursor: &'s mut TraceCursor<'a>) -> Progress
     let moved = next_word(cursor.words, cursor.checker);
     cursor.checker = moved.checker;
     moved.progress
-}
-
-// One advance of a walk over the words that has reached this checker, for callers that hold no cursor.
-pub fn advance_through(words: &[u32], reached: Checker) -> Moved
-    ensures { λ r. ⌜ MovePromised reached (now (words .entry)) r ⌝ }
-{
-    let mut cursor = new(words, reached.config);
-    cursor.checker = reached;
-    let progress = advance(&mut cursor);
-    Moved {
-        progress,
-        checker: cursor.checker,
-    }
 }

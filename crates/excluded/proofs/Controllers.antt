@@ -23,8 +23,8 @@ use Rattle.controller.specs.Steps.{held, callOutcome, stateFits, joined, offerI
 use Rattle.controller.specs.declared.Controller.{Controller}
 use Rattle.controller.specs.declared.CallAnswer.{CallAnswer}
 use Rattle.model.specs.Runs.{Call, offer, tick, Accepted, Run, prescribed, pairsOf, starts, accessOpen, latestStart}
-use Rattle.borrowed.specs.EitherForm.{Form, byValue, borrowed, Promised}
-use Rattle.borrowed.specs.Excluded.{Never}
+use Rattle.forms.specs.EitherForm.{Form, byValue, borrowed, Promised}
+use Rattle.forms.specs.Excluded.{Never}
 use Rattle.model.specs.Demand3.{putOut, taken, InOrder, Prompt}
 use Rattle.excluded.specs.Excluded.{idleRun, fakedRun, Controllers}
 use Rattle.excluded.proofs.Refusals.{value-not, require-not, behind-config}

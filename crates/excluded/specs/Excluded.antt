@@ -37,7 +37,7 @@ use Rattle.controller.specs.declared.CallAnswer.{CallAnswer}
 use Rattle.model.specs.Cases.{bank0Read}
 use Rattle.model.specs.Runs.{Call, offer, tick, Accepted, Run, pairsOf, starts, latestStart}
 use Rattle.model.specs.Demand3.{putOut, taken, InOrder, Prompt}
-use Rattle.borrowed.specs.Excluded.{Never}
+use Rattle.forms.specs.Excluded.{Never}
 use Rattle.walks.specs.Walk.{progressOutcome, moved, MovePromised}
 use Rattle.walks.specs.declared.Progress.{Progress}
 

@@ -5,14 +5,14 @@ use crate::script::request_at;
 use crate::script::word;
 use crate::shown;
 use crate::states::controller_at;
-use borrowed::offer_through;
-use borrowed::tick_through;
 use command::Request;
 use config::Config;
 use controller::CallAnswer;
 use controller::Controller;
 use controller::Offered;
 use controller::Ticked;
+use lending::offer_through;
+use lending::tick_through;
 use stamps::DESL;
 
 // By value, or by lending the controller.

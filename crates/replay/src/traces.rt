@@ -6,7 +6,7 @@ use crate::script::word;
 use crate::shown;
 use crate::states::checker_at;
 use config::Config;
-use cursor::advance_through;
+use lending::advance_through;
 use protocol::Checker;
 use protocol::Stepped;
 use protocol::Verdict;

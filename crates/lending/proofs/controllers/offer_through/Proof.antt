@@ -1,4 +1,4 @@
--- `offer_through` meets its contract: a walk of its MIR, by hand. The controller's local is lent to `offer` and comes back (`Lending`).
+-- `offer_through` meets its contract: a walk of its MIR, by hand. The controller's local is lent to `offer` and comes back (`LentLocal`).
 -- All that the proof knows of `offer` is that it meets its contract. Assumes nothing.
 -- The locals of its MIR: _0 the result, _1 the controller passed, _2 request, _3 controller, _4 answer, _5 the borrow of _3, _6 the controller left.
 use mathlib.Core.Path.{_≡_, refl}
@@ -44,17 +44,17 @@ use Rattle.controller.proofs.Offered as S
 use Rattle.controller.proofs.Offered.Laws as S′
 use Rattle.controller.proofs.CallAnswer as G
 use Rattle.controller.proofs.CallAnswer.Laws as G′
 use Rattle.borrowed.proofs.Locals.{cell, begins, freed, held, sets, lands-in}
 use Rattle.borrowed.proofs.Behind.{Known, owned-data, typed, reached}
-use Rattle.borrowed.proofs.Lending.{Ref, unbounded, lent, returned, regained}
-use Rattle.borrowed.proofs.calls.offer as callee
-use Rattle.borrowed.proofs.calls.offer.Symbol as callee-def
-use Rattle.borrowed.proofs.calls.offer.Symbol.{name as #callee}
-use Rattle.borrowed.proofs.calls.offer.Met as callee-thm
-use Rattle.borrowed.proofs.calls.offer_through.Key.{name as #through}
-use Rattle.borrowed.proofs.calls.offer_through as through
-use Rattle.borrowed.proofs.calls.offer_through.Statement as stated
-use Rattle.borrowed.proofs.calls.offer_through.Code as code
+use Rattle.borrowed.proofs.LentLocal.{Ref, unbounded, lent, returned, regained}
+use Rattle.borrowed.proofs.offer as callee
+use Rattle.borrowed.proofs.offer.Symbol as callee-def
+use Rattle.borrowed.proofs.offer.Symbol.{name as #callee}
+use Rattle.borrowed.proofs.offer.Met as callee-thm
+use Rattle.lending.proofs.controllers.offer_through.Key.{name as #through}
+use Rattle.lending.proofs.controllers.offer_through as through
+use Rattle.lending.proofs.controllers.offer_through.Statement as stated
+use Rattle.lending.proofs.controllers.offer_through.Code as code
 
 abbrev stayed : Stays (through.ended .signature .params) (through.ended .kept)
 stayed = (stay-none (λ _. T.the-row) yes, (stay-none (λ _. Q.the-row) yes, tt))
@@ -150,7 +150,7 @@ unfolding code.routine
 offer-through-spec 𝓤 H 𝓜 𝓖 𝓡 =
     let W = givenOf 𝓤 H 𝓜 𝓖 in
     let known = cited 𝓤 H (Callee 𝓤 H (𝓖 .A) (𝓜 .mem) (𝓡 .run)) 𝓜 𝓡 code.env #callee callee-def.routine
-    code.calls-borrowed·calls·offer (callee-thm.met 𝓤 H 𝓜 𝓖 𝓡) in
+    code.calls-borrowed·offer (callee-thm.met 𝓤 H 𝓜 𝓖 𝓡) in
     reached 𝓤 H 𝓜 𝓖 𝓡 through.ended code.env stayed
     (goes-none 𝓤 H (𝓖 .A) W 0 (λ _. T.the-row) yes (λ κs x f. refl), (goes-none 𝓤 H (𝓖 .A) W 0 (λ _. Q.the-row) yes (λ κs x f. refl), tt))
     (through.clauses 𝓤 H (𝓖 .A) (𝓜 .mem) (𝓡 .run)) #through code.function (code.unfolded 𝓤 H 𝓜 𝓡)

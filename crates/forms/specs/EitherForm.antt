@@ -7,13 +7,13 @@ use Rattle.basics.specs.Outcome.{value}
 use Rattle.config.specs.Configuration.{timingOf}
 use Rattle.config.specs.declared.Config.{Config}
 use Rattle.config.specs.declared.Timing.{Timing}
-use Rattle.command.specs.declared.operation.Request.{Request}
 use Rattle.controller.specs.States.{fresh}
 use Rattle.controller.specs.Steps.{held, callOutcome, offered, ticked, offerOf, tickOf}
 use Rattle.model.specs.Runs.{Call, offer, tick, Accepted, Run, ifAccepted}
 use Rattle.model.specs.Demand3.{Holds}
 use Rattle.controller.specs.declared.Controller.{Controller}
 use Rattle.controller.specs.declared.CallAnswer.{CallAnswer}
+use Rattle.borrowed.specs.Promised.{OfferPromised, TickPromised}
 
 -- how a call is made
 pub data Form : Type 0 where
@@ -27,14 +27,6 @@ pub record Made : Type 0 where
   pub answer : CallAnswer
   pub word : ℕ
   pub after : Controller
-
--- what the contract of `offer` on a borrowed controller says: s stands behind the borrow before the call, and after it `after`
-abbrev pub OfferPromised : Controller → Request → CallAnswer → Controller → Type 0
-OfferPromised s q answer after = record { outcome = callOutcome answer; after = after } ≡ offerOf s q
-
--- what that of `tick` says
-abbrev pub TickPromised : Controller → CallAnswer → ℕ → Controller → Type 0
-TickPromised s answer word after = record { outcome = callOutcome answer; word = word; after = after } ≡ tickOf s
 
 -- what the contract of its form says of a call on a controller s
 abbrev pub Promised : Form → Controller → Call → CallAnswer → ℕ → Controller → Type 0

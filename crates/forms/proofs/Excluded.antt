@@ -9,8 +9,9 @@ use Rattle.controller.specs.declared.CallAnswer.{CallAnswer}
 use Rattle.controller.specs.declared.CallAnswer.the-variants.{Accepted}
 use Rattle.model.specs.Cases.{bank0Read}
 use Rattle.model.specs.Runs.{offer, tick}
-use Rattle.borrowed.specs.EitherForm.{byValue, borrowed, OfferPromised, TickPromised}
-use Rattle.borrowed.specs.Excluded.{Never, begun, full, last, Excluded}
+use Rattle.borrowed.specs.Promised.{OfferPromised, TickPromised}
+use Rattle.forms.specs.EitherForm.{byValue, borrowed}
+use Rattle.forms.specs.Excluded.{Never, begun, full, last, Excluded}
 
 no-offer : (s : Controller) (a : CallAnswer) (after : Controller) → (OfferPromised s bank0Read a after → ⊥) → Never s (offer bank0Read) a 0 after
 no-offer s a after h byValue = h

@@ -11,7 +11,7 @@ use Rattle.model.specs.Demand3.{Holds}
 use Rattle.controller.specs.declared.Controller.{Controller}
 use Rattle.controller.specs.declared.CallAnswer.{CallAnswer}
 use Rattle.model.proofs.Demand3.{demand-3}
-use Rattle.borrowed.specs.EitherForm.{Form, byValue, borrowed, Made, Promised, MadeFrom, collected, collectFrom, EitherForm}
+use Rattle.forms.specs.EitherForm.{Form, byValue, borrowed, Made, Promised, MadeFrom, collected, collectFrom, EitherForm}
 
 offers : (r : Run) (q : Request) (answer : CallAnswer) (word : ℕ) (after : Controller)
     → record { outcome = callOutcome answer; after = after } ≡ offerOf (r .controller) q → collected (offer q) answer word after r ≡ called r (offer q)

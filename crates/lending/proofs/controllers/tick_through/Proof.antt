@@ -1,4 +1,4 @@
--- `tick_through` meets its contract: a walk of its MIR, by hand. The controller's local is lent to `tick` and comes back (`Lending`).
+-- `tick_through` meets its contract: a walk of its MIR, by hand. The controller's local is lent to `tick` and comes back (`LentLocal`).
 -- All that the proof knows of `tick` is that it meets its contract. Assumes nothing.
 -- The locals of its MIR: _0 the result, _1 the controller passed, _2 controller, _3 given, _4 the borrow of _2, _5 the controller left.
 use mathlib.Core.Path.{_≡_, refl}
@@ -36,20 +36,20 @@ use Rattle.controller.proofs.Controller as T
 use Rattle.controller.proofs.Controller.Laws as T′
 use Rattle.controller.proofs.Ticked as S
 use Rattle.controller.proofs.Ticked.Laws as S′
 use Rattle.borrowed.specs.declared.calls.Given as answers
 use Rattle.borrowed.proofs.Locals.{cell, begins, freed, held, held-field, sets, lands-in}
 use Rattle.borrowed.proofs.Behind.{Known, owned-data, read, typed, reached}
-use Rattle.borrowed.proofs.Lending.{Ref, unbounded, lent, returned, regained}
+use Rattle.borrowed.proofs.LentLocal.{Ref, unbounded, lent, returned, regained}
 use Rattle.borrowed.proofs.calls.Given as G
 use Rattle.borrowed.proofs.calls.Given.Laws as G′
-use Rattle.borrowed.proofs.calls.tick as callee
-use Rattle.borrowed.proofs.calls.tick.Symbol as callee-def
-use Rattle.borrowed.proofs.calls.tick.Symbol.{name as #callee}
-use Rattle.borrowed.proofs.calls.tick.Met as callee-thm
-use Rattle.borrowed.proofs.calls.tick_through.Key.{name as #through}
-use Rattle.borrowed.proofs.calls.tick_through as through
-use Rattle.borrowed.proofs.calls.tick_through.Statement as stated
-use Rattle.borrowed.proofs.calls.tick_through.Code as code
+use Rattle.borrowed.proofs.tick as callee
+use Rattle.borrowed.proofs.tick.Symbol as callee-def
+use Rattle.borrowed.proofs.tick.Symbol.{name as #callee}
+use Rattle.borrowed.proofs.tick.Met as callee-thm
+use Rattle.lending.proofs.controllers.tick_through.Key.{name as #through}
+use Rattle.lending.proofs.controllers.tick_through as through
+use Rattle.lending.proofs.controllers.tick_through.Statement as stated
+use Rattle.lending.proofs.controllers.tick_through.Code as code
 
 abbrev stayed : Stays (through.ended .signature .params) (through.ended .kept)
 stayed = (stay-none (λ _. T.the-row) yes, tt)
@@ -121,7 +121,7 @@ unfolding code.routine
 tick-through-spec 𝓤 H 𝓜 𝓖 𝓡 =
     let W = givenOf 𝓤 H 𝓜 𝓖 in
     let known = cited 𝓤 H (Callee 𝓤 H (𝓖 .A) (𝓜 .mem) (𝓡 .run)) 𝓜 𝓡 code.env #callee callee-def.routine
-    code.calls-borrowed·calls·tick (callee-thm.met 𝓤 H 𝓜 𝓖 𝓡) in
+    code.calls-borrowed·tick (callee-thm.met 𝓤 H 𝓜 𝓖 𝓡) in
     reached 𝓤 H 𝓜 𝓖 𝓡 through.ended code.env stayed (goes-none 𝓤 H (𝓖 .A) W 0 (λ _. T.the-row) yes (λ κs x f. refl), tt)
     (through.clauses 𝓤 H (𝓖 .A) (𝓜 .mem) (𝓡 .run)) #through code.function (code.unfolded 𝓤 H 𝓜 𝓡)
     (λ κs. (LL.vals T.the-type T′.the-laws, tt)) (λ κs. (LL.tells T.the-type T′.the-laws, tt))

@@ -9,7 +9,7 @@ use Rattle.controller.specs.declared.CallAnswer.{CallAnswer}
 use Rattle.controller.specs.declared.CallAnswer.the-variants.{Accepted}
 use Rattle.model.specs.Cases.{bank0Read}
 use Rattle.model.specs.Runs.{Call, offer, tick}
-use Rattle.borrowed.specs.EitherForm.{Form, Promised}
+use Rattle.forms.specs.EitherForm.{Form, Promised}
 
 -- no contract lets the call x on s answer so and leave `after`: not the borrowed form's, of `offer` and `tick`, and not the by-value form's,
 -- the equations of `offer_through` and `tick_through`
