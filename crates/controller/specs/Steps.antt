@@ -1,8 +1,8 @@
 -- What each call of a controller answers, and the state that it leaves, for every state there is (RULES 8.2 to 8.4).
 use Prim.Native.Nat.{ℕ, _+_, _-_}
-use mathlib.Core.Bool.{Bool, true, cond, not, _&&_}
-use mathlib.Core.List.{List, [], _∷_, _++_}
-use lib.ListN.{getD, set, take, drop}
+use mathlib.Core.Bool.{Bool, cond, not, _&&_}
+use mathlib.Core.List.{List}
+use lib.ListN.{getD, set, take}
 use lib.Dec.{eqb, leb, ltb}
 use Rattle.basics.specs.Outcome.{Outcome, value, refused}
 use Rattle.basics.specs.Numbers.{refusalNumber}
@@ -15,10 +15,10 @@ use Rattle.stamps.specs.Stamps.{remembered}
 use Rattle.rules.specs.Breaches.{wordBreach}
 use Rattle.consistency.specs.Consistency.{clockFits}
 use Rattle.stamps.specs.declared.Timestamps.{Timestamps}
+use Rattle.queue.specs.Queue.{vacant, allFit, movedUp}
 use Rattle.scheduler.specs.Pairs.{pairWords, isOpen, ofOldest, nextPair}
 use Rattle.scheduler.specs.declared.OpenPair.{OpenPair}
 use Rattle.scheduler.specs.declared.OpenPair.the-variants.{Nothing}
-use Rattle.controller.specs.States.{vacant}
 use Rattle.controller.specs.declared.Controller.{Controller}
 use Rattle.controller.specs.declared.CallAnswer.{CallAnswer}
 use Rattle.controller.specs.declared.CallAnswer.the-variants.{Accepted, Refused}
@@ -52,11 +52,6 @@ ticked r = record { outcome = callOutcome (r .answer); word = r .word; after = r
 -- the requests that wait, oldest first
 abbrev pub held : Controller → List Request
 held s = take (s .count) (s .waiting)
-
--- every field of these requests is in its range
-abbrev pub allFit : Timing → List Request → Bool
-allFit t [] = true
-allFit t (r ∷ rs) = requestFits t r && allFit t rs
 
 -- no refusal 19 (RULES 6.19): the clock is at most 16,777,216 and every event before it, no pair is open at clock 0, at most sixteen
 -- wait, each with every field in its range, and where the oldest request's pair is open, one waits. The first word of an open pair is an
@@ -133,10 +128,6 @@ starting t s =
             count = s .count;
           };
     }
-
--- the oldest of the first n has left: each other of them is one place further on, and the last of their places is vacant
-abbrev pub movedUp : ℕ → List Request → List Request
-movedUp n rs = take (n - 1) (drop 1 rs) ++ (vacant ∷ drop n rs)
 
 -- a tick with a pair open: its closing word, with which a request leaves (RULES 8.2, case 1 of 8.3)
 abbrev pub closing : Timing → Controller → Tick

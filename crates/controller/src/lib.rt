@@ -1,7 +1,6 @@
 // The controller: it keeps requests waiting and gives the words of its ticks.
 mod next;
 mod offering;
-mod queue;
 mod state;
 mod ticking;
 
@@ -11,6 +10,7 @@ use config::Config;
 use config::TimingAnswer;
 use offering::not_offered;
 use offering::offer_by;
+use queue::VACANT;
 use scheduler::OpenPair;
 use stamps::Timestamps;
 use ticking::not_ticked;
@@ -47,16 +47,6 @@ pub struct Ticked {
     pub word: u32,
     pub controller: Controller,
 }
-
-// A place where no request waits.
-const VACANT: Request = Request {
-    write: false,
-    bank: 0,
-    row: 0,
-    column: 0,
-    lower: 0,
-    upper: 0,
-};
 
 impl Controller {
     // How many requests can wait.

@@ -3,22 +3,21 @@ use crate::CallAnswer;
 use crate::Controller;
 use crate::Ticked;
 use crate::next::opens_next;
-use crate::queue::count_left;
-use crate::queue::requests_left;
 use crate::state::state_fits;
 use basics::LIMIT;
 use basics::Refusal;
 use config::Timing;
+use queue::count_left;
+use queue::requests_left;
 use scheduler::OpenPair;
 use scheduler::is_open;
 use scheduler::of_oldest;
 use scheduler::pair_words;
 ghost use mathlib.Core.Path.{_≡_};
-ghost use mathlib.Core.Bool.{true};
 ghost use Prim.Native.Nat.{_<_};
 ghost use Rattle.basics.specs.Outcome.{value};
 ghost use Rattle.basics.specs.Numbers.{refusalNumber};
-ghost use Rattle.controller.specs.Steps.{ticked, stateFits, starting, closing, notTicked, tickBy};
+ghost use Rattle.controller.specs.Steps.{ticked, starting, closing, notTicked, tickBy};
 
 // No pair is open: the first word of the one that opens, or DESL.
 fn starting(timing: Timing, controller: Controller) -> Ticked
@@ -46,7 +45,7 @@ fn starting(timing: Timing, controller: Controller) -> Ticked
 
 // A pair is open: its closing word, with which a request leaves.
 fn closing(timing: Timing, controller: Controller) -> Ticked
-    requires { ⌜ (controller .clock < 16777216) × (stateFits timing controller ≡ true) ⌝ }
+    requires { ⌜ controller .clock < 16777216 ⌝ }
     ensures { λ r. ⌜ ticked r ≡ closing timing controller ⌝ }
 {
     let config = controller.config;

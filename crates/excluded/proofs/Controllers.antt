@@ -17,7 +17,7 @@ use Rattle.basics.proofs.Outcomes.{require-value, given-value}
 use Rattle.writing.specs.Writing.{requestFits}
 use Rattle.command.specs.declared.operation.Request.{Request}
 use Rattle.rules.specs.History.{ClosedPair, pastFrom}
-use Rattle.controller.specs.States.{vacant}
+use Rattle.queue.specs.Queue.{vacant}
 use Rattle.scheduler.specs.Pairs.{isOpen}
 use Rattle.controller.specs.Steps.{held, callOutcome, stateFits, joined, offerIf, offerBy, offerOf, closing, starting, tickIf, tickBy, tickOf}
 use Rattle.controller.specs.declared.Controller.{Controller}

@@ -30,7 +30,7 @@ use Rattle.protocol.specs.declared.checker.Verdict.{Verdict}
 use Rattle.counts.specs.Counts.{countsOf, noCounts, countingOutcome, countingOf}
 use Rattle.counts.specs.declared.CommandCounts.{CommandCounts}
 use Rattle.counts.specs.declared.CountsAnswer.{CountsAnswer}
-use Rattle.controller.specs.States.{vacant}
+use Rattle.queue.specs.Queue.{vacant}
 use Rattle.controller.specs.Steps.{held, callOutcome, offered, ticked}
 use Rattle.controller.specs.declared.Controller.{Controller}
 use Rattle.controller.specs.declared.CallAnswer.{CallAnswer}

@@ -24,7 +24,7 @@ use Rattle.rules.proofs.Newest.{Ordered}
 use Rattle.rules.proofs.Summary.{summary}
 use Rattle.rules.proofs.Words.{ordered-mono, breach-is}
 use Rattle.model.specs.Laid.{Course, orElse, refreshDue, oldestOf, candidate, breachless, opening, firstWord}
-use Rattle.controller.specs.States.{vacant}
+use Rattle.queue.specs.Queue.{vacant}
 use Rattle.scheduler.specs.Pairs.{pairWords, isOpen, ofOldest, nextPair}
 use Rattle.controller.specs.Steps.{passes}
 use Rattle.controller.specs.declared.Controller.{Controller}

@@ -25,9 +25,9 @@ use Rattle.rules.proofs.Words.{ordered-mono}
 use Rattle.protocol.proofs.Before.{fits}
 use Rattle.model.specs.Laid.{Course}
 use Rattle.model.specs.Laid as laid
-use Rattle.controller.specs.States.{vacant}
+use Rattle.queue.specs.Queue.{vacant, allFit, movedUp}
 use Rattle.scheduler.specs.Pairs.{pairWords, ofOldest, nextPair}
-use Rattle.controller.specs.Steps.{Offer, held, allFit, stateFits, joined, notOffered, offerOf, passes, movedUp, notTicked, tickOf}
+use Rattle.controller.specs.Steps.{Offer, held, stateFits, joined, notOffered, offerOf, passes, notTicked, tickOf}
 use Rattle.model.specs.Runs.{requestOf, isAccess, accessOpen}
 use Rattle.controller.specs.declared.Controller.{Controller}
 use Rattle.scheduler.specs.declared.OpenPair.{OpenPair}
@@ -105,11 +105,10 @@ record Left (o : Operation) (qs : List Request) (spare : ℕ) : Type 0 where
 
 left : (o : Operation) (qs : List Request) (spare : ℕ) → length (requestOf o ++ qs) + spare ≡ 16 → Left o qs spare
 left (Access r) qs spare h =
-    let others : length (r ∷ qs) - 1 ≡ length qs = omega arith in
     record {
       vacancies = suc spare;
-      queue = rw (others, take-append-seam qs (replicate spare vacant), drop-append-seam qs (replicate spare vacant));
-      count = others;
+      queue = rw (take-append-seam qs (replicate spare vacant), drop-append-seam qs (replicate spare vacant));
+      count = omega arith;
       total = omega arith;
     }
 left (RegularMode a3) qs spare h = record { vacancies = spare; queue = refl; count = refl; total = h }

@@ -1,24 +1,14 @@
 -- The words of the open pair, and what is left of the queue. Assumes nothing.
-use Prim.Native.Nat.{_≤_}
 use mathlib.Core.Path.{_≡_}
-use mathlib.Core.Bool.{false, _&&_}
-use lib.Dec.{eqb}
 use borrow.Author.Needs.{needs}
 use Rattle.scheduler.specs.Pairs.{pairWords}
 use Rattle.controller.specs.Steps.{oldestRequest}
-use Rattle.controller.proofs.Waiting.{queue-fits}
 use Rattle.controller.proofs.ticking.closing.Statement.{statement}
 use Rattle.controller.proofs.ticking.closing.Tie as tie
 
 -- the words of the open pair
 words : (c : tie.After-pair-words) → let a = c .before .before .before .before .before .args in c .pair-words .result ≡ pairWords (a .timing) (a .controller .opened) (oldestRequest (a .controller))
 words c = c .pair-words .ensures
-
--- at most sixteen wait, and one that leaves is one of them
-queue : (c : tie.After-of-oldest) → let s = c .before .before .before .before .before .before .args .controller in (s .count ≤ 16) × ((c .of-oldest .result && eqb (s .count) 0) ≡ false)
-queue c =
-    let start = c .before .before .before .before .before .before in
-    rw (c .of-oldest .ensures) (queue-fits (start .args .timing) (start .args .controller) (start .pre .1))
 
 array-copy-out-pair-words : tie.Need-array-copy-out-pair-words
 array-copy-out-pair-words c = search needs
@@ -36,10 +26,10 @@ remembered-requires : tie.Need-remembered-requires
 remembered-requires c κs = search needs
 
 requests-left-requires : tie.Need-requests-left-requires
-requests-left-requires c κs = queue (c .before)
+requests-left-requires c κs = search needs
 
 count-left-requires : tie.Need-count-left-requires
-count-left-requires c κs = queue (c .before .before) .1
+count-left-requires c κs = search needs
 
 returns : tie.Need-returns
 returns c =

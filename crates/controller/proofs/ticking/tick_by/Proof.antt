@@ -53,7 +53,7 @@ is-open-requires : tie.Need-is-open-requires
 is-open-requires c κs = search needs
 
 closing-requires : tie.Need-closing-requires
-closing-requires c κs = (omega arith, fits (c .before .before .before .before))
+closing-requires c κs = search needs
 
 starting-requires : tie.Need-starting-requires
 starting-requires c κs = search needs

@@ -1,14 +1,14 @@
 -- The invariant: as many as were passed have moved up, and the places from there on are as they were. Assumes nothing.
-use Prim.Native.Nat.{_-_, _+_, _≤_}
+use Prim.Native.Nat.{_-_, _≤_, min}
 use mathlib.Core.Path.{_≡_, refl}
 use mathlib.Core.List.{_++_}
 use native.Mathlib.Omega.{arith}
-use lib.ListN.{take, drop}
-use Rattle.controller.specs.States.{vacant}
-use Rattle.controller.proofs.Waiting.{written, one-more-up}
+use lib.ListN.{length, take, drop}
+use Rattle.queue.specs.Queue.{vacant}
+use Rattle.queue.proofs.Waiting.{one-more-up, all-up}
 use borrow.Author.Needs.{needs}
-use Rattle.controller.proofs.queue.moved_up.Statement.{statement}
-use Rattle.controller.proofs.queue.moved_up.Tie as tie
+use Rattle.queue.proofs.moved_up.Statement.{statement}
+use Rattle.queue.proofs.moved_up.Tie as tie
 
 abbrev Inv-loop : tie.InvT-loop
 Inv-loop count waiting last moved₀ i₀ moved i =
@@ -16,6 +16,15 @@ Inv-loop count waiting last moved₀ i₀ moved i =
 
 abbrev μ-loop : tie.MeasureT-loop
 μ-loop count waiting last moved₀ i₀ moved i = last - i
+
+returns : tie.Need-returns Inv-loop μ-loop
+returns c = rw (c .if1 .taken)
+
+lesser-requires : tie.Need-lesser-requires Inv-loop μ-loop
+lesser-requires c κs = search needs
+
+cast-last : tie.Need-cast-last Inv-loop μ-loop
+cast-last c = search needs
 
 sub-last : tie.Need-sub-last Inv-loop μ-loop
 sub-last c = search needs
@@ -47,7 +56,7 @@ loop-less c = search needs
 loop-again : tie.Need-loop-again Inv-loop μ-loop
 loop-again c =
     let l = c .before .before .loop in
-    let w = c .before .before .before .args .t1 in
+    let w = c .before .before .before .before .before .args .t1 in
     (search needs, rw (l .inv .1) (one-more-up w (l .i) (omega arith)))
 
 mul-moved-2 : tie.Need-mul-moved-2 Inv-loop μ-loop
@@ -56,13 +65,13 @@ mul-moved-2 c = search needs
 array-set-from-moved-2 : tie.Need-array-set-from-moved-2 Inv-loop μ-loop
 array-set-from-moved-2 c = search needs
 
-returns : tie.Need-returns Inv-loop μ-loop
-returns c =
+returns-2 : tie.Need-returns-2 Inv-loop μ-loop
+returns-2 c =
     let l = c .before .loop in
-    let a = c .before .before .args in
-    let last : l .i ≡ a .count - 1 = omega arith in
-    let next : a .count - 1 + 1 ≡ a .count = omega arith in
-    rw (l .inv .1, last, written (a .t1) (a .count - 1) vacant (omega arith), next)
+    let a = c .before .before .before .before .args in
+    let last : c .before .before .lesser .result - 1 ≡ min (a .count) (length (a .t1)) - 1 = omega arith in
+    let passed : l .i ≡ min (a .count) (length (a .t1)) - 1 = omega arith in
+    rw (l .inv .1, last, passed) (all-up (a .t1) (a .count) (omega arith) (omega arith))
 
 pub moved-up-spec : {M : Type 1} → statement M
 moved-up-spec =
@@ -70,6 +79,9 @@ moved-up-spec =
     (tie.spec
     Inv-loop
     μ-loop
+    returns
+    lesser-requires
+    cast-last
     sub-last
     loop-holds
     add-request
@@ -82,4 +94,4 @@ moved-up-spec =
     loop-again
     mul-moved-2
     array-set-from-moved-2
-    returns)
+    returns-2)

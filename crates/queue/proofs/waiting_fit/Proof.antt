@@ -6,25 +6,27 @@ use native.Mathlib.Omega.{arith}
 use borrow.Author.Tests.{not-true, not-false}
 use lib.ListN.{getD, take, drop}
 use Rattle.writing.specs.Writing.{requestFits}
-use Rattle.controller.specs.States.{vacant}
-use Rattle.controller.specs.Steps.{allFit}
-use Rattle.controller.proofs.Waiting.{fits-from, fits-behind}
+use Rattle.queue.specs.Queue.{vacant, allFit}
+use Rattle.queue.proofs.Waiting.{fits-from, fits-behind}
 use borrow.Author.Needs.{needs}
-use Rattle.controller.proofs.state.waiting_fit.Statement.{statement}
-use Rattle.controller.proofs.state.waiting_fit.Tie as tie
+use Rattle.queue.proofs.waiting_fit.Statement.{statement}
+use Rattle.queue.proofs.waiting_fit.Tie as tie
 
 abbrev Inv-loop : tie.InvT-loop
-Inv-loop timing count waiting i₀ i =
-    (i ≤ count) × (allFit timing (take count waiting) ≡ allFit timing (drop i (take count waiting)))
+Inv-loop timing count waiting end i₀ i =
+    (i ≤ end) × (allFit timing (take count waiting) ≡ allFit timing (drop i (take count waiting)))
 
 abbrev μ-loop : tie.MeasureT-loop
-μ-loop timing count waiting i₀ i = count - i
+μ-loop timing count waiting end i₀ i = end - i
 
 -- what is left at a turn fits if its request does and those behind it do
-turn : (c : tie.In-loop Inv-loop μ-loop) → let a = c .before .before .args in let l = c .before .loop in allFit (a .timing) (take (a .count) (a .t2)) ≡ requestFits (a .timing) (getD (a .t2) (l .i) vacant) && allFit (a .timing) (drop (l .i + 1) (take (a .count) (a .t2)))
+turn : (c : tie.In-loop Inv-loop μ-loop) → let a = c .before .before .before .args in let l = c .before .loop in allFit (a .timing) (take (a .count) (a .t2)) ≡ requestFits (a .timing) (getD (a .t2) (l .i) vacant) && allFit (a .timing) (drop (l .i + 1) (take (a .count) (a .t2)))
 turn c =
-    let a = c .before .before .args in
-    c .before .loop .inv .1 ∙ fits-from (a .timing) (a .t2) (a .count) (c .before .loop .i) (omega arith) (c .loop-test .taken)
+    let a = c .before .before .before .args in
+    c .before .loop .inv .1 ∙ fits-from (a .timing) (a .t2) (a .count) (c .before .loop .i) (omega arith) (omega arith)
+
+lesser-requires : tie.Need-lesser-requires Inv-loop μ-loop
+lesser-requires c κs = search needs
 
 loop-holds : tie.Need-loop-holds Inv-loop μ-loop
 loop-holds c = (search needs, refl)
@@ -56,8 +58,8 @@ loop-again c = (search needs, rw (turn (c .before .before .before), ← c .befor
 returns-2 : tie.Need-returns-2 Inv-loop μ-loop
 returns-2 c =
     let l = c .before .loop in
-    let a = c .before .before .args in
-    rw (l .inv .1, fits-behind (a .timing) (a .t2) (a .count) (l .i) (omega arith) (c .loop-test .left))
+    let a = c .before .before .before .args in
+    rw (l .inv .1, fits-behind (a .timing) (a .t2) (a .count) (l .i) (omega arith))
 
 pub waiting-fit-spec : {M : Type 1} → statement M
 waiting-fit-spec =
@@ -65,6 +67,7 @@ waiting-fit-spec =
     (tie.spec
     Inv-loop
     μ-loop
+    lesser-requires
     loop-holds
     cast-request
     mul-request

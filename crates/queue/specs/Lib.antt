@@ -1,0 +1,2 @@
+-- What the code's contracts say of the requests that wait.
+pub mod Queue
