@@ -4,7 +4,6 @@ use mathlib.Core.Path.{_≡_, refl}
 use mathlib.Core.List.{_++_}
 use native.Mathlib.Omega.{arith}
 use lib.ListN.{length, take, drop}
-use Rattle.queue.specs.Queue.{vacant}
 use Rattle.queue.proofs.Waiting.{one-more-up, all-up}
 use borrow.Author.Needs.{needs}
 use Rattle.queue.proofs.moved_up.Statement.{statement}
