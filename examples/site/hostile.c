@@ -20,7 +20,7 @@ struct sheet {
 
 static const struct sheet sheet_e = {{37, 4, 4, 16, 5000, 2, 3, 1, 7, 18}};
 
-/* The least and the greatest value of each number; the period's own for grade 37 and CL 4. */
+/* The least and the greatest value of each number; the period's own for grade 37 and CL 4, REFC's for CL 3 and 5. */
 static const uint32_t range[NUMBERS][2] = {
     {37, 50}, {3, 5}, {2, 4}, {8, 16}, {4500, 8500}, {2, 7}, {1, 7}, {1, 7}, {2, 15}, {15, 63},
 };
@@ -54,6 +54,8 @@ static uint32_t refusal(const struct sheet *sheet, size_t length) {
     for (int number = RBD; number <= REFC; number++)
         if (!in_range(sheet, number))
             return 22;
+    if (n[CL] == 4 && n[REFC] < 18)
+        return 33;
     if (length % 4 != 0)
         return 29;
     return length / 4 > LONGEST ? 24 : 0;
@@ -197,6 +199,21 @@ static void periods(void) {
     }
 }
 
+/* REFC at and around its edges, each value with the answers at CL 3, 4 and 5. */
+static void refresh_counts(void) {
+    static const uint32_t tried[][4] = {
+        {14, 22, 22, 22}, {15, 0, 33, 0}, {17, 0, 33, 0}, {18, 0, 0, 0}, {19, 0, 0, 0}, {63, 0, 0, 0}, {64, 22, 22, 22},
+    };
+    for (size_t i = 0; i < sizeof tried / sizeof *tried; i++)
+        for (uint32_t cl = 3; cl <= 5; cl++) {
+            struct sheet sheet = sheet_e;
+            sheet.number[CL] = cl;
+            sheet.number[PERIOD] = 6000;
+            sheet.number[REFC] = tried[i][0];
+            expect(&sheet, NULL, 0, tried[i][cl - 2]);
+        }
+}
+
 /* Every number of a sheet the same. */
 static void uniform_sheets(void) {
     static const uint32_t values[] = {0, 1, 4, 16, 37, 1u << 31, UINT32_MAX};
@@ -234,6 +251,8 @@ static void long_lengths(void) {
     for (size_t i = 0; i < sizeof lengths / sizeof *lengths; i++) {
         expect(&sheet_e, zeros, lengths[i][0], (uint32_t)lengths[i][1]);
         struct sheet bad = sheet_e;
+        bad.number[REFC] = 17;
+        expect(&bad, zeros, lengths[i][0], 33);
         bad.number[REFC] = 0;
         expect(&bad, zeros, lengths[i][0], 22);
     }
@@ -289,6 +308,7 @@ static void noisy_traces(void) {
 int main(void) {
     sheets();
     periods();
+    refresh_counts();
     uniform_sheets();
     short_lengths();
     long_lengths();

@@ -66,6 +66,7 @@ static const char *refusal(uint32_t number) {
     case 22: return "a count of clocks is outside its range";
     case 24: return "more than 16,777,216 words";
     case 29: return "the length is no multiple of four bytes";
+    case 33: return "CL 4 needs a REFC of at least 18";
     default: return NULL;
     }
 }

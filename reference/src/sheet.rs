@@ -36,6 +36,9 @@ pub const GREATEST_PERIOD: u32 = 8500;
 /// The ranges of the five counts, in the order RBD, RWD, WRD, RSC, REFC.
 pub const COUNT_RANGES: [(u32, u32); 5] = [(2, 7), (1, 7), (1, 7), (2, 15), (15, 63)];
 
+/// The least REFC at CL 4, which is above the least of its range.
+pub const LEAST_REFC_AT_CL_4: u32 = 18;
+
 /// The maker's table of least periods; none for a grade or CL that the table does not have.
 pub fn least_period(grade: u32, cl: u32) -> Option<u32> {
     match (grade, cl) {
@@ -87,25 +90,48 @@ impl Sheet {
         [self.rbd, self.rwd, self.wrd, self.rsc, self.refc]
     }
 
-    /// The sheet's own refusal: 20 grade, CL, BL or organisation; then 21 period; then 22 a count.
-    pub fn refusal(&self) -> Option<u32> {
+    /// Whether grade, CL, BL and organisation are among those there are.
+    fn part_fits(&self) -> bool {
         let grade_fits = self.grade == 37 || self.grade == 50;
         let cl_fits = self.cl == 3 || self.cl == 4 || self.cl == 5;
         let bl_fits = self.bl == 2 || self.bl == 4;
         let org_fits = self.org == 16 || self.org == 8;
-        if !(grade_fits && cl_fits && bl_fits && org_fits) {
-            return Some(20);
-        }
-        let least = least_period(self.grade, self.cl).unwrap();
-        if self.period < least || self.period > GREATEST_PERIOD {
-            return Some(21);
-        }
-        for (count, (low, high)) in self.counts().into_iter().zip(COUNT_RANGES) {
-            if count < low || count > high {
-                return Some(22);
-            }
-        }
-        None
+        grade_fits && cl_fits && bl_fits && org_fits
+    }
+
+    /// Whether the period is in its range; a grade or CL outside the table has no least one.
+    fn period_fits(&self) -> bool {
+        let least = least_period(self.grade, self.cl).unwrap_or(0);
+        self.period >= least && self.period <= GREATEST_PERIOD
+    }
+
+    /// Whether each count is in its range.
+    fn counts_fit(&self) -> bool {
+        let mut ranged = self.counts().into_iter().zip(COUNT_RANGES);
+        ranged.all(|(count, (low, high))| count >= low && count <= high)
+    }
+
+    /// Whether REFC is below what CL 4 asks for.
+    fn refresh_short(&self) -> bool {
+        self.cl == 4 && self.refc < LEAST_REFC_AT_CL_4
+    }
+
+    /// The sheet's own refusals that stand, in the order in which they are tried: 20 grade, CL, BL
+    /// or organisation; 21 period; 22 a count; 33 a REFC too short at CL 4.
+    pub fn refusals(&self) -> impl Iterator<Item = u32> {
+        let grounds = [
+            (!self.part_fits(), 20),
+            (!self.period_fits(), 21),
+            (!self.counts_fit(), 22),
+            (self.refresh_short(), 33),
+        ];
+        let standing = grounds.into_iter().filter(|(stands, _)| *stands);
+        standing.map(|(_, number)| number)
+    }
+
+    /// The sheet's own refusal, the first that stands.
+    pub fn refusal(&self) -> Option<u32> {
+        self.refusals().next()
     }
 
     /// RC, the spacing of two reads or writes of one bank. Of accepted sheets only, as all below.

@@ -52,9 +52,9 @@ fn refusals_of_the_site_in_their_order() {
     assert_eq!(long(&SHEET_E, longest + 1), 29);
     assert_eq!(long(&SHEET_E, longest - 1), 29);
     let mut sheet = SHEET_E;
-    for (refusal, field) in [(22, 9), (21, 4), (20, 0)] {
+    for (refusal, field, value) in [(33, 9, 17), (22, 5, 0), (21, 4, 0), (20, 0, 0)] {
         let mut numbers = sheet.numbers();
-        numbers[field] = 0;
+        numbers[field] = value;
         sheet = Sheet::from_numbers(numbers);
         for length in [0, 1, 4, longest + 1, longest + 4] {
             assert_eq!(long(&sheet, length), refusal);

@@ -124,9 +124,23 @@ fn refusals_in_their_order() {
     numbers[EVENT] = LONGEST;
     assert_eq!(step(&numbers), Step::Refused(19));
     assert_eq!(walk(&numbers), Some(Step::Refused(19)));
-    numbers[9] = 64;
-    assert_eq!(step(&numbers), Step::Refused(22));
-    assert_eq!(walk(&numbers), Some(Step::Refused(22)));
+    for (field, value, number) in [(9, 17, 33), (8, 16, 22), (4, 4499, 21), (2, 3, 20)] {
+        numbers[field] = value;
+        assert_eq!(step(&numbers), Step::Refused(number));
+        assert_eq!(walk(&numbers), Some(Step::Refused(number)));
+    }
+}
+
+/// A sheet inside a controller's state is tested before all else, and the state stays.
+#[test]
+fn sheets_of_controllers() {
+    for count in [0, 16, 17] {
+        let mut numbers = controller(LONGEST, 0, count);
+        for (field, value, number) in [(9, 17, 33), (8, 16, 22), (4, 4499, 21), (2, 3, 20)] {
+            numbers[field] = value;
+            assert_eq!(refusals(&numbers), [Some(number); 2]);
+        }
+    }
 }
 
 /// A request that leaves: the others move up, their last place is vacant, those behind stay.

@@ -23,7 +23,7 @@ pub fn promised() -> Vec<String> {
     let mut promised = Vec::new();
     let calls = ["check", "walk", "walk again"];
     for call in calls {
-        for number in 20..=22 {
+        for number in [20, 21, 22, 33] {
             promised.push(format!("{call}, short: refused {number}"));
             promised.extend(LENGTHS.map(|(_, name)| format!("{call}, {name}: refused {number}")));
         }
@@ -48,6 +48,7 @@ pub fn promised() -> Vec<String> {
     promised.extend(counted.map(|what| format!("count, {what}")));
     let refused = LENGTHS[1..].iter();
     promised.extend(refused.map(|(_, name)| format!("count, {name}: refused 30")));
+    promised.extend(sheets::promised_order());
     promised
 }
 
@@ -68,6 +69,9 @@ pub fn short(run: &mut Run, random: &Random) {
         let words = random.pick(&[&[][..], &[DESL], &[0]]);
         run.all::<Both>(&Sheet::from_numbers(numbers), words, "short");
     });
+    for words in [&[][..], &[DESL], &[0]] {
+        refused_sheets(run, words, "short");
+    }
 }
 
 /// Traces at the limits: as they should be, with a breach at the last clock, with one early on, and
@@ -89,12 +93,10 @@ pub fn long(run: &mut Run, random: &Random) {
     }
 }
 
-/// The sheet's refusals, one of each.
+/// Sheets that are refused, whatever the words are.
 fn refused_sheets(run: &mut Run, words: &[u32], name: &str) {
-    for (field, value) in [(2, 3), (4, 4499), (9, 64)] {
-        let mut numbers = SHEET_E.numbers();
-        numbers[field] = value;
-        let sheet = Sheet::from_numbers(numbers);
+    for sheet in sheets::refused() {
+        sheets::count_order(&mut run.coverage, &sheet);
         run.check::<Summary>(&sheet, words, name);
         run.walks::<Summary>(&sheet, words, name);
     }

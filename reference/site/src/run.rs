@@ -8,6 +8,7 @@ use reference::hand_in::{site_number, site_refusal};
 use reference::judge::LONGEST;
 use reference::random::Random;
 use reference::sheet::Sheet;
+use reference::suites::sheets;
 use std::process::exit;
 
 /// The longest trace that `short` takes, in bytes.
@@ -97,17 +98,18 @@ impl Run {
         self.calls += 1;
         let name = match wanted {
             0 => "accepted".to_string(),
-            20..=29 => format!("refused {wanted}"),
+            20..=29 | 33 => format!("refused {wanted}"),
             _ => format!("breach {}", wanted % 64),
         };
         self.coverage.meet(&name);
         // The numbers that stand too, and are answered later in the order.
+        sheets::count_order(&mut self.coverage, sheet);
         let odd = !bytes.len().is_multiple_of(4);
         let long = bytes.len() / 4 > LONGEST as usize;
-        if odd && matches!(wanted, 20..=22) {
+        if odd && matches!(wanted, 20..=22 | 33) {
             self.coverage.meet(&format!("{wanted} ahead of 29"));
         }
-        if long && matches!(wanted, 20..=22 | 29) {
+        if long && matches!(wanted, 20..=22 | 33 | 29) {
             self.coverage.meet(&format!("{wanted} ahead of 24"));
         }
     }
@@ -126,7 +128,7 @@ fn place<'a>(memory: &'a mut Vec<u8>, bytes: &[u8], address: usize) -> &'a [u8] 
 fn meaning(number: u32) -> String {
     match number {
         0 => "0, accepted".to_string(),
-        20..=29 => format!("{number}, refused"),
+        20..=29 | 33 => format!("{number}, refused"),
         _ => format!("{number}, breach {} {}", number / 64, number % 64),
     }
 }

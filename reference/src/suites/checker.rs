@@ -1,18 +1,18 @@
 //! The examiner, step by step, whole and as a walk, and the counts: codes 2, 3, 8 and 10.
 
-use super::{long, names, near, pool};
+use super::{long, names, near, pool, sheets};
 use crate::coverage::Coverage;
 use crate::judge::{check, Verdict};
 use crate::past::Past;
 use crate::random::Random;
 use crate::script::{Call, Packer};
-use crate::sheet::{Sheet, SHEET_E};
+use crate::sheet::Sheet;
 use crate::summary::Summary;
 use crate::word::{DESL, PD};
 
 /// What this suite must meet.
 pub fn promised() -> Vec<String> {
-    let refusals = ["refused 20", "refused 21", "refused 22"];
+    let refusals = ["refused 20", "refused 21", "refused 22", "refused 33"];
     let mut promised = [
         names(2, &refusals),
         names(3, &refusals),
@@ -29,6 +29,7 @@ pub fn promised() -> Vec<String> {
         promised.push(format!("10 breach {number}"));
     }
     promised.push("walk over an unfinished pair".to_string());
+    promised.extend(sheets::promised_order());
     promised.extend(near::promised());
     promised
 }
@@ -36,7 +37,7 @@ pub fn promised() -> Vec<String> {
 /// All cases of the suite.
 pub fn cases(seed: u64, scale: u32, packer: &mut Packer, coverage: &mut Coverage) {
     let random = Random::new(seed);
-    unfit_sheets(&random, packer);
+    unfit_sheets(&random, packer, coverage);
     for round in 0..scale {
         near::round(&random, round, coverage, &mut |coverage, sheet, words| {
             judged(&random, packer, coverage, sheet, words)
@@ -100,21 +101,11 @@ pub fn steps(words: &[u32]) -> Vec<Call> {
 }
 
 /// Sheets that are refused, before anything else is looked at.
-fn unfit_sheets(random: &Random, packer: &mut Packer) {
-    for (field, value) in [
-        (0, 38),
-        (1, 6),
-        (2, 3),
-        (3, 4),
-        (4, 8501),
-        (4, 0),
-        (5, 1),
-        (9, 64),
-    ] {
-        let mut numbers = SHEET_E.numbers();
-        numbers[field] = value;
+fn unfit_sheets(random: &Random, packer: &mut Packer, coverage: &mut Coverage) {
+    for sheet in sheets::refused() {
+        sheets::count_order(coverage, &sheet);
         packer.group(&[
-            Call::Config(numbers),
+            pool::config(&sheet),
             Call::Step {
                 count: 3,
                 word: random.pick(&[0, DESL]),

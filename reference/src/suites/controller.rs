@@ -1,7 +1,7 @@
 //! The controller: codes 4, 5 and 9, and at random 11 and 12 for 4 and 5. What is written is compared
 //! with the reference controller's and also held against the promises of demand 3.
 
-use super::{names, pool};
+use super::{names, pool, sheets};
 use crate::coverage::Coverage;
 use crate::judge::LONGEST;
 use crate::pair::column_pins;
@@ -14,7 +14,7 @@ const WAYS: u32 = 10;
 
 /// What this suite must meet.
 pub fn promised() -> Vec<String> {
-    let refusals = ["refused 20", "refused 21", "refused 22"];
+    let refusals = ["refused 20", "refused 21", "refused 22", "refused 33"];
     let mut promised = names(9, &["waiting", "request"]);
     for code in [4, 11] {
         promised.extend(names(code, &refusals));
@@ -27,13 +27,14 @@ pub fn promised() -> Vec<String> {
     promised.push("waiting shown as accepted and not yet carried".to_string());
     promised.push("first word before its bound by 8 to 31".to_string());
     promised.push("list ended".to_string());
+    promised.extend(sheets::promised_order());
     promised
 }
 
 /// All cases of the suite.
-pub fn cases(seed: u64, scale: u32, packer: &mut Packer, _coverage: &mut Coverage) {
+pub fn cases(seed: u64, scale: u32, packer: &mut Packer, coverage: &mut Coverage) {
     let random = Random::new(seed);
-    unfit_sheets(&random, packer);
+    unfit_sheets(&random, packer, coverage);
     for round in 0..scale {
         for (i, sheet) in pool::corners().into_iter().enumerate() {
             list(&random, packer, &sheet, (round + i as u32) % WAYS);
@@ -195,20 +196,10 @@ fn refused_between(random: &Random, sheet: &Sheet, calls: &mut Vec<Call>) {
 }
 
 /// Sheets that are refused, before anything else is looked at.
-fn unfit_sheets(random: &Random, packer: &mut Packer) {
-    for (field, value) in [
-        (0, 38),
-        (1, 6),
-        (2, 3),
-        (3, 4),
-        (4, 8501),
-        (4, 0),
-        (5, 1),
-        (9, 64),
-    ] {
-        let mut numbers = SHEET_E.numbers();
-        numbers[field] = value;
-        let mut calls = vec![Call::Config(numbers), Call::Tick(0), Call::Tick(3)];
+fn unfit_sheets(random: &Random, packer: &mut Packer, coverage: &mut Coverage) {
+    for sheet in sheets::refused() {
+        sheets::count_order(coverage, &sheet);
+        let mut calls = vec![pool::config(&sheet), Call::Tick(0), Call::Tick(3)];
         for _ in 0..4 {
             calls.push(offer(random, &SHEET_E, &[0]));
             calls.push(unfit_offer(random, &SHEET_E));

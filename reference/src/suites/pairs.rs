@@ -19,8 +19,14 @@ const KINDS: [Kind; 5] = [
 
 /// What this suite must meet.
 pub fn promised() -> Vec<String> {
-    let config = ["config 0", "config 20", "config 21", "config 22"];
-    let refusals = ["refused 20", "refused 21", "refused 22"];
+    let config = [
+        "config 0",
+        "config 20",
+        "config 21",
+        "config 22",
+        "config 33",
+    ];
+    let refusals = ["refused 20", "refused 21", "refused 22", "refused 33"];
     let read = ["access", "regular", "extended", "refresh", "refused 28"];
     let write = ["words", "refused 26"];
     [
@@ -29,14 +35,15 @@ pub fn promised() -> Vec<String> {
         names(6, &read),
         names(7, &refusals),
         names(7, &write),
+        sheets::promised_order(),
     ]
     .concat()
 }
 
 /// All cases of the suite.
-pub fn cases(seed: u64, scale: u32, packer: &mut Packer, _coverage: &mut Coverage) {
+pub fn cases(seed: u64, scale: u32, packer: &mut Packer, coverage: &mut Coverage) {
     let random = Random::new(seed);
-    sheets::trials(&random, packer, scale);
+    sheets::trials(&random, packer, coverage, scale);
     for sheet in pool::parts() {
         written(&random, packer, &sheet);
         damaged(&random, packer, &sheet, scale);

@@ -3,7 +3,7 @@
 use crate::pair::{self, column_pins, Kind, Operation, Request};
 use crate::random::Random;
 use crate::script::Call;
-use crate::sheet::{least_period, Sheet, COUNT_RANGES, GREATEST_PERIOD};
+use crate::sheet::{least_period, Sheet, COUNT_RANGES, GREATEST_PERIOD, LEAST_REFC_AT_CL_4};
 use crate::word::{a, BA2, BANK, FN, ROW};
 
 /// The call that starts afresh on a sheet.
@@ -11,7 +11,7 @@ pub fn config(sheet: &Sheet) -> Call {
     Call::Config(sheet.numbers())
 }
 
-/// Every grade, CL, BL and organisation, at a period and counts in the middle.
+/// Every grade, CL, BL and organisation, at a period and counts in the middle: accepted sheets.
 pub fn parts() -> Vec<Sheet> {
     let mut sheets = Vec::new();
     for grade in [37, 50] {
@@ -28,22 +28,49 @@ pub fn parts() -> Vec<Sheet> {
     sheets
 }
 
-/// Every part at its least and greatest period with each count at its least and greatest.
-pub fn corners() -> Vec<Sheet> {
+/// The range of each count at a CL, on an accepted sheet.
+fn count_ranges(cl: u32) -> [(u32, u32); 5] {
+    let mut ranges = COUNT_RANGES;
+    if cl == 4 {
+        ranges[4].0 = LEAST_REFC_AT_CL_4;
+    }
+    ranges
+}
+
+/// A part at its least and greatest period with each count at either end of a range.
+fn corners_of(part: &Sheet, ranges: [(u32, u32); 5]) -> Vec<Sheet> {
     let mut sheets = Vec::new();
-    for part in parts() {
-        for period in [least_period(part.grade, part.cl).unwrap(), GREATEST_PERIOD] {
-            for corner in 0..32 {
-                let mut numbers = part.numbers();
-                numbers[4] = period;
-                for (i, (low, high)) in COUNT_RANGES.into_iter().enumerate() {
-                    numbers[5 + i] = if corner >> i & 1 == 0 { low } else { high };
-                }
-                sheets.push(Sheet::from_numbers(numbers));
+    for period in [least_period(part.grade, part.cl).unwrap(), GREATEST_PERIOD] {
+        for corner in 0..32 {
+            let mut numbers = part.numbers();
+            numbers[4] = period;
+            for (i, (low, high)) in ranges.into_iter().enumerate() {
+                numbers[5 + i] = if corner >> i & 1 == 0 { low } else { high };
             }
+            sheets.push(Sheet::from_numbers(numbers));
         }
     }
     sheets
+}
+
+/// The corners of every part: accepted sheets.
+pub fn corners() -> Vec<Sheet> {
+    let corners = |part: Sheet| corners_of(&part, count_ranges(part.cl));
+    parts().into_iter().flat_map(corners).collect()
+}
+
+/// The parts at CL 4 with the greatest REFC that 33 refuses.
+pub fn short_parts() -> Vec<Sheet> {
+    let at_4 = parts().into_iter().filter(|part| part.cl == 4);
+    at_4.map(|part| Sheet { refc: 17, ..part }).collect()
+}
+
+/// The corners of these, with the least and the greatest REFC that 33 refuses.
+pub fn short_corners() -> Vec<Sheet> {
+    let mut ranges = COUNT_RANGES;
+    ranges[4].1 = 17;
+    let parts = short_parts().into_iter();
+    parts.flat_map(|part| corners_of(&part, ranges)).collect()
 }
 
 /// An accepted sheet at random.
@@ -51,7 +78,7 @@ pub fn sheet(random: &Random) -> Sheet {
     let mut numbers = random.pick(&parts()).numbers();
     let least = least_period(numbers[0], numbers[1]).unwrap();
     numbers[4] = random.between(least, GREATEST_PERIOD);
-    for (i, (low, high)) in COUNT_RANGES.into_iter().enumerate() {
+    for (i, (low, high)) in count_ranges(numbers[1]).into_iter().enumerate() {
         numbers[5 + i] = random.between(low, high);
     }
     Sheet::from_numbers(numbers)

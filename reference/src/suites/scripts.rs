@@ -1,7 +1,7 @@
 //! The script itself: calls of all codes mixed, the configuration at the start, and scripts that
 //! are refused whole or from some call on.
 
-use super::{names, pool, trace};
+use super::{names, pool, sheets, trace};
 use crate::coverage::Coverage;
 use crate::random::Random;
 use crate::script::{bytes, Call, Packer, PairNumbers};
@@ -20,6 +20,9 @@ pub fn promised() -> Vec<String> {
     for (code, answer) in (1..).zip(common) {
         promised.extend(names(code, &[answer]));
     }
+    let refused = ["config 20", "config 21", "config 22", "config 33"];
+    promised.extend(names(1, &refused));
+    promised.extend(sheets::promised_order());
     promised.extend(names(9, &["waiting"]));
     promised.extend(names(10, &["end"]));
     promised.extend(names(11, &["offered"]));
@@ -33,7 +36,7 @@ pub fn cases(seed: u64, scale: u32, packer: &mut Packer, coverage: &mut Coverage
     packer.raw(&[]);
     coverage.meet("script without a line");
     for _ in 0..200 * scale {
-        let mixed = mixed(&random);
+        let mixed = mixed(&random, coverage);
         packer.raw(&bytes(&mixed));
         let cut = random.below(mixed.len() as u32) as usize;
         packer.raw(&bytes(&mixed[..cut]));
@@ -66,13 +69,14 @@ fn lengths(packer: &mut Packer) {
 }
 
 /// Calls of all codes at random, from the configuration that stands at the start.
-fn mixed(random: &Random) -> Vec<u32> {
+fn mixed(random: &Random, coverage: &mut Coverage) -> Vec<u32> {
     let mut sheet = SHEET_E;
     let mut script = Vec::new();
     for _ in 0..60 {
         let call = some_call(random, &sheet);
         if let Call::Config(numbers) = call {
             sheet = Sheet::from_numbers(numbers);
+            sheets::count_order(coverage, &sheet);
         }
         call.encode(&mut script);
     }
@@ -91,7 +95,7 @@ fn some_call(random: &Random, sheet: &Sheet) -> Call {
     let (first, second) = pool::noisy(random, &fit, kind, &operation);
     let request = pool::request(random, &fit, random.once_in(2), random.below(9)).numbers();
     match random.below(21) {
-        0 if random.once_in(6) => Call::Config([38, 4, 4, 16, 5000, 2, 3, 1, 7, 18]),
+        0 if random.once_in(6) => pool::config(&random.pick(&sheets::refused())),
         0 => pool::config(&pool::sheet(random)),
         1..=3 => Call::Step {
             count: random.below(40),

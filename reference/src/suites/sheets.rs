@@ -1,12 +1,50 @@
-//! Sheets for the pairs' suite: each field around its edges, and several unfit at once.
+//! Sheets at and around their edges, and refused ones, for every suite; and which of their refusals
+//! stand together.
 
 use super::pool;
+use crate::coverage::Coverage;
 use crate::random::Random;
 use crate::script::{Call, Packer, PairNumbers};
-use crate::sheet::{least_period, Sheet, COUNT_RANGES, GREATEST_PERIOD};
+use crate::sheet::{least_period, Sheet, COUNT_RANGES, GREATEST_PERIOD, SHEET_E};
 use crate::word::{CS, FN, PD};
 
 const MAX: u32 = u32::MAX;
+
+/// Fields of a sheet with values that are unfit, those refused by 20 first, then by 21, then by 22.
+const UNFIT: [(usize, u32); 7] = [(0, 38), (1, 6), (2, 3), (3, 4), (4, 8501), (4, 0), (5, 1)];
+
+/// What refused sheets must meet: each earlier number ahead of 33.
+pub fn promised_order() -> Vec<String> {
+    let ahead = |number| format!("{number} ahead of 33");
+    [20, 21, 22].map(ahead).to_vec()
+}
+
+/// Counts the sheet's refusal ahead of each later one that stands too.
+pub fn count_order(coverage: &mut Coverage, sheet: &Sheet) {
+    let mut standing = sheet.refusals();
+    let Some(answer) = standing.next() else {
+        return;
+    };
+    for other in standing {
+        coverage.meet(&format!("{answer} ahead of {other}"));
+    }
+}
+
+/// Refused sheets: E with another REFC; with another field unfit; and with that beside a REFC that
+/// is too short.
+pub fn refused() -> Vec<Sheet> {
+    let with = |refc| Sheet { refc, ..SHEET_E };
+    let alone = [14, 15, 17, 64].map(with);
+    let unfit = |sheet: Sheet| UNFIT.map(|(field, value)| put(&sheet, field, value));
+    [&alone[..], &unfit(SHEET_E), &unfit(with(17))].concat()
+}
+
+/// The sheet with another value in one field.
+fn put(sheet: &Sheet, field: usize, value: u32) -> Sheet {
+    let mut numbers = sheet.numbers();
+    numbers[field] = value;
+    Sheet::from_numbers(numbers)
+}
 
 /// Values of the sheet's field i around its edges on this part, and others that a narrower number
 /// would take for fitting ones.
@@ -54,18 +92,17 @@ fn trial(random: &Random, numbers: [u32; 10]) -> [Call; 3] {
     ]
 }
 
-/// Each field alone at and around each of its edges, on every part; then every corner.
+/// Each field alone at and around each of its edges, on every part and on those that 33 refuses;
+/// then every corner.
 pub fn each_edge(visit: &mut dyn FnMut([u32; 10])) {
-    for part in pool::parts() {
+    for part in [pool::parts(), pool::short_parts()].concat() {
         for i in 0..10 {
             for value in edge_values(&part, i) {
-                let mut numbers = part.numbers();
-                numbers[i] = value;
-                visit(numbers);
+                visit(put(&part, i, value).numbers());
             }
         }
     }
-    for corner in pool::corners() {
+    for corner in [pool::corners(), pool::short_corners()].concat() {
         visit(corner.numbers());
     }
 }
@@ -85,8 +122,11 @@ pub fn each_fault(random: &Random, rounds: u32, visit: &mut dyn FnMut([u32; 10])
 }
 
 /// Both of these as configurations of the replay program.
-pub fn trials(random: &Random, packer: &mut Packer, scale: u32) {
-    let mut visit = |numbers| packer.group(&trial(random, numbers));
+pub fn trials(random: &Random, packer: &mut Packer, coverage: &mut Coverage, scale: u32) {
+    let mut visit = |numbers| {
+        count_order(coverage, &Sheet::from_numbers(numbers));
+        packer.group(&trial(random, numbers));
+    };
     each_edge(&mut visit);
     each_fault(random, 4 * scale, &mut visit);
 }

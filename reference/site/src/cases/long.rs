@@ -112,6 +112,8 @@ fn busy(run: &mut Run, random: &Random) {
     trace.set(0, 0);
     trace.compare(run, BYTES, 2, "breach at the first word");
     trace.compare(run, BYTES + 4, 24, "24, one word more");
+    trace.sheet.refc = 17;
+    trace.compare(run, BYTES + 5, 33, "33, a word and a byte more");
     trace.sheet.period = 4499;
     trace.compare(run, BYTES + 5, 21, "21, a word and a byte more");
 }

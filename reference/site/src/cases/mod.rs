@@ -24,14 +24,15 @@ pub const SECTIONS: [Section; 5] = [
 pub fn promised() -> Vec<String> {
     let mut promised: Vec<String> = (1..=12).map(|n| format!("breach {n}")).collect();
     promised.push("accepted".to_string());
-    for number in [20, 21, 22, 24, 29] {
+    for number in [20, 21, 22, 24, 29, 33] {
         promised.push(format!("refused {number}"));
     }
-    for number in [20, 21, 22] {
+    for number in [20, 21, 22, 33] {
         promised.push(format!("{number} ahead of 29"));
         promised.push(format!("{number} ahead of 24"));
     }
     promised.push("29 ahead of 24".to_string());
+    promised.extend(reference::suites::sheets::promised_order());
     for address in 0..4 {
         promised.push(format!("judged at address {address} modulo 4"));
     }

@@ -97,11 +97,23 @@ fn some_event(random: &Random, sheet: &Sheet, clock: u32) -> u32 {
     clock.saturating_sub(before.max(1))
 }
 
+/// Puts the modes and the last two refreshes so that a state with a late enough clock is ready for
+/// reads and writes, at times with the next refresh due or overdue.
+fn put_start_up(random: &Random, sheet: &Sheet, numbers: &mut [u32]) {
+    let refresh = random.pick(&[40, 40, sheet.d(), sheet.d() + 1]);
+    for (event, before) in [(0, 203), (1, 202), (13, refresh), (14, refresh + 70)] {
+        numbers[EVENT + event] = numbers[CLOCK].saturating_sub(before);
+    }
+}
+
 /// Puts events into a state with an accepted sheet, all of them before its clock.
 pub fn put_events(random: &Random, sheet: &Sheet, numbers: &mut [u32]) {
     let clock = numbers[CLOCK];
     for event in &mut numbers[EVENT..EVENT + EVENTS] {
         *event = some_event(random, sheet, clock);
+    }
+    if random.once_in(2) {
+        put_start_up(random, sheet, numbers);
     }
     // Mostly in order, as refreshes are.
     if !random.once_in(4) {
@@ -109,25 +121,34 @@ pub fn put_events(random: &Random, sheet: &Sheet, numbers: &mut [u32]) {
     }
 }
 
-/// Puts a number of the sheet out of its range, at times two of them.
+/// Puts a fault into the sheet, at times two of them: a number out of its range, or CL 4 with a REFC
+/// that is too short for it.
 pub fn spoil_sheet(random: &Random, numbers: &mut [u32]) {
     for _ in 0..random.between(1, 2) {
-        let (field, value) = random.pick(&[
-            (0, 38),
-            (1, 6),
-            (2, 3),
-            (3, 4),
-            (4, 8501),
-            (4, 3749),
-            (5, 8),
-            (6, 0),
-            (7, 8),
-            (8, 16),
-            (9, 64),
-            (9, 14),
-        ]);
-        numbers[field] = value;
+        match random.below(4) {
+            0 => (numbers[1], numbers[9]) = (4, random.between(15, 17)),
+            _ => put_out_of_range(random, numbers),
+        }
     }
+}
+
+/// Puts a number of the sheet out of its range.
+fn put_out_of_range(random: &Random, numbers: &mut [u32]) {
+    let (field, value) = random.pick(&[
+        (0, 38),
+        (1, 6),
+        (2, 3),
+        (3, 4),
+        (4, 8501),
+        (4, 3749),
+        (5, 8),
+        (6, 0),
+        (7, 8),
+        (8, 16),
+        (9, 64),
+        (9, 14),
+    ]);
+    numbers[field] = value;
 }
 
 /// Puts some events not before the clock.

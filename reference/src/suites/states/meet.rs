@@ -8,7 +8,7 @@ use crate::summary::NAMES;
 
 /// The refusals of a state in their order: its sheet's own, then 19.
 pub fn of_state(sheet: &Sheet, grounds: &[Ground]) -> Vec<String> {
-    let mut standing: Vec<String> = sheet.refusal().iter().map(u32::to_string).collect();
+    let mut standing: Vec<String> = sheet.refusals().map(|n| n.to_string()).collect();
     if !grounds.is_empty() {
         standing.push("19".to_string());
     }
@@ -52,20 +52,15 @@ pub fn promised_grounds(call: &str, grounds: &[Ground]) -> Vec<String> {
     promised
 }
 
-/// Each of the answers in this order and the sheet's three, and each ahead of each later one.
-pub fn promised_order(call: &str, order: &[&str]) -> Vec<String> {
+/// The sheet's four answers and then these, in this order: each of them, and each ahead of each
+/// later one.
+pub fn promised_order(call: &str, further: &[&str]) -> Vec<String> {
     let mut promised = Vec::new();
-    let ahead = |first: &str, later: &[&str]| -> Vec<String> {
-        let pair = |other| format!("{call}: {first} ahead of {other}");
-        later.iter().map(pair).collect()
-    };
-    for number in ["20", "21", "22"] {
-        promised.push(format!("{call}: {number}"));
-        promised.extend(ahead(number, order));
-    }
+    let order = [&["20", "21", "22", "33"], further].concat();
     for (i, answer) in order.iter().enumerate() {
         promised.push(format!("{call}: {answer}"));
-        promised.extend(ahead(answer, &order[i + 1..]));
+        let ahead = |other| format!("{call}: {answer} ahead of {other}");
+        promised.extend(order[i + 1..].iter().map(ahead));
     }
     promised
 }

@@ -53,7 +53,7 @@ fn answers() -> Vec<String> {
         promised.push(format!("108 breach {number}"));
     }
     for code in [2, 4, 5, 11, 12, 108] {
-        promised.extend(names(code, &["refused 20", "refused 21", "refused 22"]));
+        promised.extend([20, 21, 22, 33].map(|n| format!("{code} refused {n}")));
     }
     for code in [4, 11] {
         promised.extend(names(
@@ -65,7 +65,7 @@ fn answers() -> Vec<String> {
         promised.extend(names(code, &["word", "clock", "refused 19", "refused 24"]));
     }
     for code in [105, 106] {
-        promised.extend([0, 19, 20, 21, 22, 24].map(|n| format!("{code} tick {n}")));
+        promised.extend([0, 19, 20, 21, 22, 24, 33].map(|n| format!("{code} tick {n}")));
     }
     promised
 }
