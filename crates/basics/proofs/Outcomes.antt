@@ -1,4 +1,5 @@
--- What lies behind an outcome that is a value: every test held, and every call before it gave a value. Assumes nothing.
+-- What lies behind an outcome that is a value: every test held, and every call before it gave a value. By which numbers a row of tests does
+-- not refuse. Assumes nothing.
 use Prim.Native.Nat.{ℕ}
 use mathlib.Core.Path.{_≡_, refl, sym, subst}
 use mathlib.Core.Bool.{Bool, true, false}
@@ -25,3 +26,18 @@ same-number e = cc
 -- a refusal by another number
 pub refused-by : {A : Type 0} {m n : ℕ} → (m ≡ n → ⊥) → _≡_ {A = Outcome A} (refused m) (refused n) → ⊥
 refused-by h e = h (same-number e)
+
+-- not refused by n
+abbrev pub Not : {A : Type 0} → ℕ → Outcome A → Type 0
+Not n x = x ≡ refused n → ⊥
+
+pub value-not : {A : Type 0} (n : ℕ) (a : A) → Not n (value a)
+value-not n a e = refused-value (sym e)
+
+pub require-not : {A : Type 0} (b : Bool) (m n : ℕ) (x : Outcome A) → (m ≡ n → ⊥) → Not n x → Not n (require b m x)
+require-not true m n x h k = k
+require-not false m n x h k = refused-by h
+
+pub given-not : {A B : Type 0} (n : ℕ) (x : Outcome A) (f : A → Outcome B) → Not n x → ((a : A) → Not n (f a)) → Not n (given x f)
+given-not n (value a) f h k = k a
+given-not n (refused m) f h k = λ e. h (cc)

@@ -1,4 +1,4 @@
-// What every other crate uses: the refusals of the whole product, the clock limit, and a choice between two numbers.
+// What most crates use: the refusals of the whole product, the clock limit, and a choice between two numbers.
 mod refusal;
 
 pub use refusal::Refusal;

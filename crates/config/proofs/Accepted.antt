@@ -1,12 +1,13 @@
 -- A call that gave a value had an accepted configuration: all its tests held, and its timing is the derived one. Assumes nothing.
-use mathlib.Core.Path.{_≡_, sym}
-use mathlib.Core.Bool.{Bool, true, false}
+use Prim.Native.Nat.{ℕ, _<_}
+use mathlib.Core.Path.{_≡_}
+use mathlib.Core.Bool.{true}
 use native.Mathlib.Omega.{arith}
-use Rattle.basics.specs.Outcome.{Outcome, value, refused, require, given}
+use Rattle.basics.specs.Outcome.{Outcome, value, given}
 use Rattle.config.specs.Configuration.{partFits, periodFits, countsFit, refreshFits, derived, timingOf}
 use Rattle.config.specs.declared.Config.{Config}
 use Rattle.config.specs.declared.Timing.{Timing}
-use Rattle.basics.proofs.Outcomes.{refused-value, refused-by, require-value, given-value}
+use Rattle.basics.proofs.Outcomes.{require-value, given-value, Not, value-not, require-not}
 
 pub record Accepted (c : Config) : Type 0 where
   pub part : partFits c ≡ true
@@ -32,13 +33,18 @@ behind c f e =
     let a = accepted c (g .0) (g .1) in
     (a .0, rw (a .1) (g .2))
 
--- 19 is no refusal of a configuration
-pub config-19 : (c : Config) → timingOf c ≡ refused 19 → ⊥
-config-19 c = go (partFits c) (periodFits c) (countsFit c) (refreshFits c)
-  where
-    go : (a b d f : Bool) → require a 20 (require b 21 (require d 22 (require f 33 (value (derived c))))) ≡ refused 19 → ⊥
-    go true true true true e = refused-value (sym e)
-    go true true true false e = refused-by (λ q. omega arith) e
-    go true true false f e = refused-by (λ q. omega arith) e
-    go true false d f e = refused-by (λ q. omega arith) e
-    go false b d f e = refused-by (λ q. omega arith) e
+-- a configuration is refused by these four numbers alone
+config-not : (c : Config) (n : ℕ) → (20 ≡ n → ⊥) → (21 ≡ n → ⊥) → (22 ≡ n → ⊥) → (33 ≡ n → ⊥) → Not n (timingOf c)
+config-not c n not-20 not-21 not-22 not-33 =
+    require-not (partFits c) 20 n _ not-20
+    (require-not (periodFits c) 21 n _ not-21
+    (require-not (countsFit c) 22 n _ not-22
+    (require-not (refreshFits c) 33 n _ not-33 (value-not n _))))
+
+-- so not by 19
+pub config-19 : (c : Config) → Not 19 (timingOf c)
+config-19 c = config-not c 19 (λ e. omega arith) (λ e. omega arith) (λ e. omega arith) (λ e. omega arith)
+
+-- nor by a number between 22 and 33
+pub config-between : (c : Config) (n : ℕ) → 22 < n → n < 33 → Not n (timingOf c)
+config-between c n low high = config-not c n (λ e. omega arith) (λ e. omega arith) (λ e. omega arith) (λ e. omega arith)

@@ -45,7 +45,7 @@ countsFit c =
     && within 2 15 (c .rsc .0)
     && within 15 63 (c .refc .0)
 
--- REFC is not below 18 at CL 4 (RULES 1.1)
+-- at CL 4, REFC is not below 18 (RULES 1.5)
 abbrev pub refreshFits : Config → Bool
 refreshFits c = not (eqb (c .cl) 4 && ltb (c .refc .0) 18)
 

@@ -12,8 +12,8 @@ use Rattle.walks.specs.declared.Progress.{Progress}
 use Rattle.walks.specs.declared.Progress.the-variants.{End}
 use Rattle.cursor.specs.declared.TraceCursor.{TraceCursor}
 
--- no contract lets an advance of a fresh walk over ws answer so and leave the checker `after`: not that of `advance_through`, and not that of
--- `advance`, which promises the same of its checker
+-- no contract lets an advance of a fresh walk over ws answer so and leave the checker `after`: not that of `next_word`, which
+-- `advance_through` of `lending` has too, and not that of `advance`, which promises the same of its checker
 abbrev pub Never : List ℕ → Progress → Checker → Type 0
 Never ws answer after = MovePromised (fresh institute) ws (record { progress = answer; checker = after }) → ⊥
 

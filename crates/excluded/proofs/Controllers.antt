@@ -13,7 +13,7 @@ use Rattle.basics.specs.Outcome.{Outcome, value, refused, require, given}
 use Rattle.config.specs.Configuration.{institute, derived, timingOf}
 use Rattle.config.specs.declared.Timing.{Timing}
 use Rattle.basics.specs.declared.refusal.Refusal.the-variants.{ClockLimit, Field, QueueFull}
-use Rattle.basics.proofs.Outcomes.{require-value, given-value}
+use Rattle.basics.proofs.Outcomes.{require-value, given-value, value-not, require-not, given-not}
 use Rattle.writing.specs.Writing.{requestFits}
 use Rattle.command.specs.declared.operation.Request.{Request}
 use Rattle.rules.specs.History.{ClosedPair, pastFrom}
@@ -27,7 +27,7 @@ use Rattle.forms.specs.EitherForm.{Form, byValue, borrowed, Promised}
 use Rattle.forms.specs.Excluded.{Never}
 use Rattle.model.specs.Demand3.{putOut, taken, InOrder, Prompt}
 use Rattle.excluded.specs.Excluded.{idleRun, fakedRun, Controllers}
-use Rattle.excluded.proofs.Refusals.{value-not, require-not, behind-config}
+use Rattle.config.proofs.Accepted.{config-between}
 
 nothing-out : (t : Timing) (calls : List Call) (r : Run) (a : Accepted) (newer : List Accepted) → r .accepted ≡ a ∷ newer
     → starts (pairsOf (r .words)) ≡ [] → latestStart t a + 1 < length (r .words) → Prompt t calls r → ⊥
@@ -130,7 +130,7 @@ controllers =
       offer-27 =
           λ s after q h.
           no-offer s after q (CallAnswer.Refused QueueFull)
-          (behind-config (s .config) 27 (offerAnswer s q) (omega arith) (omega arith)
+          (given-not 27 (timingOf (s .config)) (offerAnswer s q) (config-between (s .config) 27 (omega arith) (omega arith))
           (λ t. require-not (stateFits t s) 19 27 _ (λ e. omega arith)
           (require-not (requestFits t q) 26 27 _ (λ e. omega arith) (rw (lt-ltb (s .count) 16 (omega arith)) (value-not 27 tt)))));
       offer-26 =
@@ -142,7 +142,7 @@ controllers =
       tick-24 =
           λ s after word h.
           no-tick s after word (CallAnswer.Refused ClockLimit)
-          (behind-config (s .config) 24 (tickAnswer s) (omega arith) (omega arith)
+          (given-not 24 (timingOf (s .config)) (tickAnswer s) (config-between (s .config) 24 (omega arith) (omega arith))
           (λ t. require-not (stateFits t s) 19 24 _ (λ e. omega arith) (rw (lt-ltb (s .clock) 16777216 (omega arith)) (value-not 24 tt))));
       offer-past-27 =
           λ s after q h.

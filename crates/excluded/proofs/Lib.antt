@@ -1,6 +1,5 @@
--- Read Excluded last: it has the theorem. Refusals is on rows of refusals; the others go through the records of specs/Excluded.
+-- Read Excluded last: it has the theorem. The others go through the records of specs/Excluded.
 pub mod Answers
-pub mod Refusals
 pub mod Controllers
 pub mod Examiners
 pub mod Tallies

@@ -11,8 +11,8 @@ use Rattle.model.specs.Cases.{bank0Read}
 use Rattle.model.specs.Runs.{Call, offer, tick}
 use Rattle.forms.specs.EitherForm.{Form, Promised}
 
--- no contract lets the call x on s answer so and leave `after`: not the borrowed form's, of `offer` and `tick`, and not the by-value form's,
--- the equations of `offer_through` and `tick_through`
+-- no contract lets the call x on s answer so and leave `after`: not that of `offer` and `tick` of `borrowed`, and not that of
+-- `Controller::offer` and `Controller::tick`, whose equations `offer_through` and `tick_through` of `lending` have too
 abbrev pub Never : Controller → Call → CallAnswer → ℕ → Controller → Type 0
 Never s x answer word after = (form : Form) → Promised form s x answer word after → ⊥
 

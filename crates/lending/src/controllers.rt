@@ -8,7 +8,7 @@ use controller::Ticked;
 ghost use mathlib.Core.Path.{_≡_};
 ghost use Rattle.controller.specs.Steps.{offered, offerOf, ticked, tickOf};
 
-// Takes a request.
+// Takes a request: answers, and hands back, what `Controller::offer` does.
 pub fn offer_through(mut controller: Controller, request: Request) -> Offered
     ensures { λ r. ⌜ offered r ≡ offerOf controller request ⌝ }
 {
@@ -16,7 +16,7 @@ pub fn offer_through(mut controller: Controller, request: Request) -> Offered
     Offered { answer, controller }
 }
 
-// Gives the word for the clock.
+// Gives the word for the clock: answers, and hands back, what `Controller::tick` does.
 pub fn tick_through(mut controller: Controller) -> Ticked
     ensures { λ r. ⌜ ticked r ≡ tickOf controller ⌝ }
 {

@@ -6,6 +6,7 @@ ghost use Prim.Native.Nat.{_+_, _<_};
 ghost use Rattle.line.specs.Lines.{emptyLine, pushed, appended};
 ghost use Rattle.line.specs.Text.{decimal};
 
+// Room for 40 bytes; the text is the first `len` of them.
 pub struct Line {
     pub bytes: [u8; 40],
     pub len: usize,

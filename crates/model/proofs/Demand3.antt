@@ -11,7 +11,7 @@ use Rattle.basics.specs.Outcome.{Outcome, value, refused, require}
 use Rattle.config.specs.Configuration.{timingOf}
 use Rattle.config.specs.declared.Config.{Config}
 use Rattle.config.specs.declared.Timing.{Timing}
-use Rattle.basics.proofs.Outcomes.{refused-value, same-number, refused-by}
+use Rattle.basics.proofs.Outcomes.{same-number, Not, value-not, require-not}
 use Rattle.config.proofs.Accepted.{accepted, config-19}
 use Rattle.writing.specs.Writing.{requestFits}
 use Rattle.command.specs.declared.operation.Request.{Request}
@@ -125,36 +125,25 @@ refused-stays n r (offer q ∷ calls) e =
     let same : called r (offer q) .controller ≡ r .controller = rw e in
     refused-stays n (called r (offer q)) calls (subst⁻¹ (λ s. timingOf (s .config) ≡ refused n) same e) ∙ same
 
--- no outcome of a call is a refusal by 19
-abbrev Not19 : Outcome (Unit {0}) → Type 0
-Not19 x = x ≡ refused 19 → ⊥
-
-passed-19 : Not19 (value tt)
-passed-19 e = refused-value (sym e)
-
-require-19 : (b : Bool) (n : ℕ) (x : Outcome (Unit {0})) → (n ≡ 19 → ⊥) → Not19 x → Not19 (require b n x)
-require-19 true n x h g = g
-require-19 false n x h g = refused-by h
-
 module _ (c : Config) (calls : List Call) where
   abbrev end : Controller
   end = run c calls .controller
 
   -- on a refused configuration every call is refused as the fresh one refuses it
-  config-refuses : (n : ℕ) → timingOf c ≡ refused n → Not19 (refused n)
+  config-refuses : (n : ℕ) → timingOf c ≡ refused n → Not {A = Unit {0}} 19 (refused n)
   config-refuses n is e = config-19 c (is ∙ ap refused (same-number e))
 
-  offered-19 : (q : Request) (o : Outcome Timing) → timingOf c ≡ o → Not19 (offerOf end q .outcome)
+  offered-19 : (q : Request) (o : Outcome Timing) → timingOf c ≡ o → Not 19 (offerOf end q .outcome)
   offered-19 q (value t) is =
-      subst⁻¹ Not19 (holds c t is calls .offer-refused q)
-      (require-19 (requestFits t q) 26 _ (λ e. omega arith) (require-19 (ltb (length (held end)) 16) 27 _ (λ e. omega arith) passed-19))
+      subst⁻¹ (Not 19) (holds c t is calls .offer-refused q)
+      (require-not (requestFits t q) 26 19 _ (λ e. omega arith) (require-not (ltb (length (held end)) 16) 27 19 _ (λ e. omega arith) (value-not 19 tt)))
   offered-19 q (refused n) is =
-      subst⁻¹ (λ s. Not19 (offerOf s q .outcome)) (refused-stays n _ calls is) (rw is (config-refuses n is))
+      subst⁻¹ (λ s. Not 19 (offerOf s q .outcome)) (refused-stays n _ calls is) (rw is (config-refuses n is))
 
-  ticked-19 : (o : Outcome Timing) → timingOf c ≡ o → Not19 (tickOf end .outcome)
+  ticked-19 : (o : Outcome Timing) → timingOf c ≡ o → Not 19 (tickOf end .outcome)
   ticked-19 (value t) is =
-      subst⁻¹ Not19 (holds c t is calls .tick-refused) (require-19 (ltb (length (run c calls .words)) 16777216) 24 _ (λ e. omega arith) passed-19)
-  ticked-19 (refused n) is = subst⁻¹ (λ s. Not19 (tickOf s .outcome)) (refused-stays n _ calls is) (rw is (config-refuses n is))
+      subst⁻¹ (Not 19) (holds c t is calls .tick-refused) (require-not (ltb (length (run c calls .words)) 16777216) 24 19 _ (λ e. omega arith) (value-not 19 tt))
+  ticked-19 (refused n) is = subst⁻¹ (λ s. Not 19 (tickOf s .outcome)) (refused-stays n _ calls is) (rw is (config-refuses n is))
 
 pub demand-3 : Demand3
 demand-3 =

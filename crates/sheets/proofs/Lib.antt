@@ -1,1 +1,2 @@
+-- The theorem of specs/Sheets.
 pub mod Sheets

@@ -1,11 +1,12 @@
--- Refused sheets: every call on one refuses as the test of the sheet does, and changes nothing; and which sheets 33 is for.
+-- Refused sheets: every call that tests one refuses it as `Config::timing` does, and changes nothing; and which sheets 33 is for.
 use Prim.Native.Nat.{ℕ, _<_}
 use mathlib.Core.Path.{_≡_}
 use mathlib.Core.Bool.{true}
 use mathlib.Core.List.{List}
-use Rattle.basics.specs.Outcome.{refused}
+use Rattle.basics.specs.Outcome.{value, refused}
 use Rattle.config.specs.Configuration.{partFits, periodFits, countsFit, timingOf}
 use Rattle.config.specs.declared.Config.{Config}
+use Rattle.config.specs.declared.Timing.{Timing}
 use Rattle.command.specs.declared.operation.Operation.{Operation}
 use Rattle.command.specs.declared.operation.Pair.{Pair}
 use Rattle.command.specs.declared.operation.Request.{Request}
@@ -27,7 +28,7 @@ pub record ShortRefresh (c : Config) : Type 0 where
   pub cl : c .cl ≡ 4
   pub refc : c .refc .0 < 18
 
--- the sheet is refused by n wherever it is handed over, and wherever a state holds it, whatever else stands there; the state stays
+-- the sheet is refused by n by every call that tests one, handed over or inside a state, whatever else is there; the state stays
 pub record RefusedBy (n : ℕ) (c : Config) : Type 0 where
   pub read : (p : Pair) → readPair c p ≡ refused n
   pub write : (o : Operation) → writePair c o ≡ refused n
@@ -37,14 +38,16 @@ pub record RefusedBy (n : ℕ) (c : Config) : Type 0 where
   pub site : (bytes : List ℕ) → numberOf (checkBytesOf c bytes) ≡ n
   pub step : (s : Checker) (w : ℕ) → s .config ≡ c → stepOf s w ≡ refusing s n
   pub advance : (s : Checker) (words : List ℕ) → s .config ≡ c → moveOf s words ≡ staying s (refused n)
-  -- of both forms of the call
+  -- these two by value and on a borrowed controller: both contracts cite them
   pub offer : (s : Controller) (q : Request) → s .config ≡ c → offerOf s q ≡ notOffered s n
   pub tick : (s : Controller) → s .config ≡ c → tickOf s ≡ notTicked s n
 
 -- the theorem
 pub record Sheets : Type 0 where
-  -- 33 is for these sheets, and for no other
+  -- no sheet with CL 4 and REFC below 18 is accepted, whatever else it has (RULES 1.5)
+  pub never-accepted : (c : Config) (t : Timing) → c .cl ≡ 4 → c .refc .0 < 18 → timingOf c ≡ value t → ⊥
+  -- 33 is for the sheets of that sort that no earlier number applies to, and for no other
   pub short : (c : Config) → ShortRefresh c → timingOf c ≡ refused 33
   pub only-short : (c : Config) → timingOf c ≡ refused 33 → ShortRefresh c
-  -- what a sheet is refused by, each call on it is
+  -- by whatever number a sheet is refused
   pub everywhere : (c : Config) (n : ℕ) → timingOf c ≡ refused n → RefusedBy n c

@@ -1,1 +1,1 @@
-// The theorem that a refused configuration is refused by every call on it; there is no code.
+// The theorem that a refused configuration is refused by every call that tests one; there is no code.

@@ -36,7 +36,7 @@ pub record Move : Type 0 where
   pub outcome : Outcome Reached
   pub after : Checker
 
--- what `next_word` and `advance_through` return, as these two
+-- what `next_word`, and `advance_through` of `lending`, return, as these two
 abbrev pub moved : Moved → Move
 moved r = record { outcome = progressOutcome (r .progress); after = r .checker }
 
@@ -62,7 +62,7 @@ atEnd s = given (timingOf (s .config)) (λ _. require (clockFits (s .clock) (s .
 abbrev pub moveOf : Checker → List ℕ → Move
 moveOf s ws = cond (ltb (s .clock) (length ws)) (examined (stepOf s (getD ws (s .clock) 0))) (staying s (atEnd s))
 
--- what the contracts of `next_word` and `advance_through` say of the result r
+-- what the contracts of `next_word`, and of `advance_through` of `lending`, say of the result r
 abbrev pub MovePromised : Checker → List ℕ → Moved → Type 0
 MovePromised s ws r = moved r ≡ moveOf s ws
 

@@ -48,7 +48,6 @@ pub fn promised() -> Vec<String> {
     promised.extend(counted.map(|what| format!("count, {what}")));
     let refused = LENGTHS[1..].iter();
     promised.extend(refused.map(|(_, name)| format!("count, {name}: refused 30")));
-    promised.extend(sheets::promised_order());
     promised
 }
 
@@ -96,7 +95,6 @@ pub fn long(run: &mut Run, random: &Random) {
 /// Sheets that are refused, whatever the words are.
 fn refused_sheets(run: &mut Run, words: &[u32], name: &str) {
     for sheet in sheets::refused() {
-        sheets::count_order(&mut run.coverage, &sheet);
         run.check::<Summary>(&sheet, words, name);
         run.walks::<Summary>(&sheet, words, name);
     }

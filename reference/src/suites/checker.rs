@@ -29,7 +29,6 @@ pub fn promised() -> Vec<String> {
         promised.push(format!("10 breach {number}"));
     }
     promised.push("walk over an unfinished pair".to_string());
-    promised.extend(sheets::promised_order());
     promised.extend(near::promised());
     promised
 }
@@ -37,7 +36,7 @@ pub fn promised() -> Vec<String> {
 /// All cases of the suite.
 pub fn cases(seed: u64, scale: u32, packer: &mut Packer, coverage: &mut Coverage) {
     let random = Random::new(seed);
-    unfit_sheets(&random, packer, coverage);
+    unfit_sheets(&random, packer);
     for round in 0..scale {
         near::round(&random, round, coverage, &mut |coverage, sheet, words| {
             judged(&random, packer, coverage, sheet, words)
@@ -101,9 +100,8 @@ pub fn steps(words: &[u32]) -> Vec<Call> {
 }
 
 /// Sheets that are refused, before anything else is looked at.
-fn unfit_sheets(random: &Random, packer: &mut Packer, coverage: &mut Coverage) {
+fn unfit_sheets(random: &Random, packer: &mut Packer) {
     for sheet in sheets::refused() {
-        sheets::count_order(coverage, &sheet);
         packer.group(&[
             pool::config(&sheet),
             Call::Step {

@@ -27,14 +27,13 @@ pub fn promised() -> Vec<String> {
     promised.push("waiting shown as accepted and not yet carried".to_string());
     promised.push("first word before its bound by 8 to 31".to_string());
     promised.push("list ended".to_string());
-    promised.extend(sheets::promised_order());
     promised
 }
 
 /// All cases of the suite.
-pub fn cases(seed: u64, scale: u32, packer: &mut Packer, coverage: &mut Coverage) {
+pub fn cases(seed: u64, scale: u32, packer: &mut Packer, _coverage: &mut Coverage) {
     let random = Random::new(seed);
-    unfit_sheets(&random, packer, coverage);
+    unfit_sheets(&random, packer);
     for round in 0..scale {
         for (i, sheet) in pool::corners().into_iter().enumerate() {
             list(&random, packer, &sheet, (round + i as u32) % WAYS);
@@ -196,9 +195,8 @@ fn refused_between(random: &Random, sheet: &Sheet, calls: &mut Vec<Call>) {
 }
 
 /// Sheets that are refused, before anything else is looked at.
-fn unfit_sheets(random: &Random, packer: &mut Packer, coverage: &mut Coverage) {
+fn unfit_sheets(random: &Random, packer: &mut Packer) {
     for sheet in sheets::refused() {
-        sheets::count_order(coverage, &sheet);
         let mut calls = vec![pool::config(&sheet), Call::Tick(0), Call::Tick(3)];
         for _ in 0..4 {
             calls.push(offer(random, &SHEET_E, &[0]));

@@ -36,6 +36,7 @@ pub fn promised() -> Vec<String> {
         names(7, &refusals),
         names(7, &write),
         sheets::promised_order(),
+        sheets::promised_on_pairs(),
     ]
     .concat()
 }

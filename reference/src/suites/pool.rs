@@ -62,13 +62,14 @@ pub fn corners() -> Vec<Sheet> {
 /// The parts at CL 4 with the greatest REFC that 33 refuses.
 pub fn short_parts() -> Vec<Sheet> {
     let at_4 = parts().into_iter().filter(|part| part.cl == 4);
-    at_4.map(|part| Sheet { refc: 17, ..part }).collect()
+    let refc = LEAST_REFC_AT_CL_4 - 1;
+    at_4.map(|part| Sheet { refc, ..part }).collect()
 }
 
 /// The corners of these, with the least and the greatest REFC that 33 refuses.
 pub fn short_corners() -> Vec<Sheet> {
     let mut ranges = COUNT_RANGES;
-    ranges[4].1 = 17;
+    ranges[4].1 = LEAST_REFC_AT_CL_4 - 1;
     let parts = short_parts().into_iter();
     parts.flat_map(|part| corners_of(&part, ranges)).collect()
 }

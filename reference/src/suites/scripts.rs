@@ -22,7 +22,6 @@ pub fn promised() -> Vec<String> {
     }
     let refused = ["config 20", "config 21", "config 22", "config 33"];
     promised.extend(names(1, &refused));
-    promised.extend(sheets::promised_order());
     promised.extend(names(9, &["waiting"]));
     promised.extend(names(10, &["end"]));
     promised.extend(names(11, &["offered"]));
@@ -36,7 +35,7 @@ pub fn cases(seed: u64, scale: u32, packer: &mut Packer, coverage: &mut Coverage
     packer.raw(&[]);
     coverage.meet("script without a line");
     for _ in 0..200 * scale {
-        let mixed = mixed(&random, coverage);
+        let mixed = mixed(&random);
         packer.raw(&bytes(&mixed));
         let cut = random.below(mixed.len() as u32) as usize;
         packer.raw(&bytes(&mixed[..cut]));
@@ -69,14 +68,13 @@ fn lengths(packer: &mut Packer) {
 }
 
 /// Calls of all codes at random, from the configuration that stands at the start.
-fn mixed(random: &Random, coverage: &mut Coverage) -> Vec<u32> {
+fn mixed(random: &Random) -> Vec<u32> {
     let mut sheet = SHEET_E;
     let mut script = Vec::new();
     for _ in 0..60 {
         let call = some_call(random, &sheet);
         if let Call::Config(numbers) = call {
             sheet = Sheet::from_numbers(numbers);
-            sheets::count_order(coverage, &sheet);
         }
         call.encode(&mut script);
     }

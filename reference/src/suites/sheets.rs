@@ -13,10 +13,20 @@ const MAX: u32 = u32::MAX;
 /// Fields of a sheet with values that are unfit, those refused by 20 first, then by 21, then by 22.
 const UNFIT: [(usize, u32); 7] = [(0, 38), (1, 6), (2, 3), (3, 4), (4, 8501), (4, 0), (5, 1)];
 
-/// What refused sheets must meet: each earlier number ahead of 33.
+/// The sheet's own refusals, in the order in which they are tried.
+pub const REFUSALS: [u32; 4] = [20, 21, 22, 33];
+
+/// What every set of unfit fields must meet: each number ahead of each later one.
 pub fn promised_order() -> Vec<String> {
-    let ahead = |number| format!("{number} ahead of 33");
-    [20, 21, 22].map(ahead).to_vec()
+    let later = |i: usize| REFUSALS[i + 1..].iter();
+    let ahead = |i| later(i).map(move |other| format!("{} ahead of {other}", REFUSALS[i]));
+    (0..REFUSALS.len()).flat_map(ahead).collect()
+}
+
+/// What a pair on a refused sheet must meet: each number ahead of the pair's own.
+pub fn promised_on_pairs() -> Vec<String> {
+    let ahead = |n| [format!("6: {n} ahead of 28"), format!("7: {n} ahead of 26")];
+    REFUSALS.map(ahead).concat()
 }
 
 /// Counts the sheet's refusal ahead of each later one that stands too.
@@ -92,6 +102,22 @@ fn trial(random: &Random, numbers: [u32; 10]) -> [Call; 3] {
     ]
 }
 
+/// Counts the sheet's refusal ahead of the one that the pair that is read or written has of its own.
+fn count_pairs(coverage: &mut Coverage, sheet: &Sheet, calls: &[Call; 3]) {
+    let Some(n) = sheet.refusal() else {
+        return;
+    };
+    let [_, Call::ReadPair(first, second), Call::WritePair(written)] = calls else {
+        return;
+    };
+    if first & CS != 0 || second & PD == 0 {
+        coverage.meet(&format!("6: {n} ahead of 28"));
+    }
+    if matches!(written, PairNumbers::Extended(64..)) {
+        coverage.meet(&format!("7: {n} ahead of 26"));
+    }
+}
+
 /// Each field alone at and around each of its edges, on every part and on those that 33 refuses;
 /// then every corner.
 pub fn each_edge(visit: &mut dyn FnMut([u32; 10])) {
@@ -124,8 +150,11 @@ pub fn each_fault(random: &Random, rounds: u32, visit: &mut dyn FnMut([u32; 10])
 /// Both of these as configurations of the replay program.
 pub fn trials(random: &Random, packer: &mut Packer, coverage: &mut Coverage, scale: u32) {
     let mut visit = |numbers| {
-        count_order(coverage, &Sheet::from_numbers(numbers));
-        packer.group(&trial(random, numbers));
+        let sheet = Sheet::from_numbers(numbers);
+        let calls = trial(random, numbers);
+        count_order(coverage, &sheet);
+        count_pairs(coverage, &sheet, &calls);
+        packer.group(&calls);
     };
     each_edge(&mut visit);
     each_fault(random, 4 * scale, &mut visit);

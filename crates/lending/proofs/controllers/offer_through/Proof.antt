@@ -46,7 +46,7 @@ use Rattle.controller.proofs.CallAnswer as G
 use Rattle.controller.proofs.CallAnswer.Laws as G′
 use Rattle.borrowed.proofs.Locals.{cell, begins, freed, held, sets, lands-in}
 use Rattle.borrowed.proofs.Behind.{Known, owned-data, typed, reached}
-use Rattle.borrowed.proofs.LentLocal.{Ref, unbounded, lent, returned, regained}
+use Rattle.lending.proofs.LentLocal.{Ref, unbounded, lent, returned, regained}
 use Rattle.borrowed.proofs.offer as callee
 use Rattle.borrowed.proofs.offer.Symbol as callee-def
 use Rattle.borrowed.proofs.offer.Symbol.{name as #callee}

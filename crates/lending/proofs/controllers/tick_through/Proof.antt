@@ -39,7 +39,7 @@ use Rattle.controller.proofs.Ticked.Laws as S′
 use Rattle.borrowed.specs.declared.calls.Given as answers
 use Rattle.borrowed.proofs.Locals.{cell, begins, freed, held, held-field, sets, lands-in}
 use Rattle.borrowed.proofs.Behind.{Known, owned-data, read, typed, reached}
-use Rattle.borrowed.proofs.LentLocal.{Ref, unbounded, lent, returned, regained}
+use Rattle.lending.proofs.LentLocal.{Ref, unbounded, lent, returned, regained}
 use Rattle.borrowed.proofs.calls.Given as G
 use Rattle.borrowed.proofs.calls.Given.Laws as G′
 use Rattle.borrowed.proofs.tick as callee

@@ -54,7 +54,7 @@ use Rattle.borrowed.proofs.Locals.{Blocks, env, Content, room, holds, locals, c
 use Rattle.borrowed.proofs.Behind.{typed, owned-data, told, reached}
 use Rattle.cursor.proofs.Cursors.{D, L, Cursor, with-checker, Words, Both, kept, changed, wordsVal, configVal, checkerVal, cursorVal}
 use Rattle.cursor.proofs.Cursors.{checker-is, words-typed, progress-typed, moved-typed, cursor-typed}
-use Rattle.borrowed.proofs.LentLocal.{Ref, lent, returned, regained}
+use Rattle.lending.proofs.LentLocal.{Ref, lent, returned, regained}
 use Rattle.cursor.proofs.TraceCursor as T
 use Rattle.cursor.proofs.TraceCursor.Laws as T′
 use Rattle.walks.proofs.Moved as N
