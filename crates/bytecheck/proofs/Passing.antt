@@ -14,7 +14,7 @@ use Rattle.command.specs.Pins.{high}
 use Rattle.command.specs.Pairs.{rda}
 use Rattle.command.specs.Pairs.{bankOf}
 use Rattle.stamps.specs.Stamps.{nextFirst}
-use Rattle.rules.specs.Breaches.{near, overdue, bankStamp, earlyBreach, closingBreach}
+use Rattle.rules.specs.Breaches.{near, deadline, overdue, bankStamp, earlyBreach, closingBreach}
 use Rattle.rules.specs.Verdict.{Judgement}
 use Rattle.stamps.specs.declared.Timestamps.{Timestamps}
 use Rattle.rules.proofs.ByKind.{at-lal}
@@ -30,15 +30,15 @@ pub far : (k c n : ℕ) → c + n ≤ k → near k c n ≡ false
 far k c n h = rw (le-ltb k (c + n) h) (and-false (not (eqb c 0)))
 
 -- rules 1 to 3 are kept
-early-kept : (refi last k w : ℕ) → w / 2 ^ 19 ≡ 1 → overdue refi last k ≡ false → earlyBreach refi last k w ≡ 0
-early-kept refi last k w e due = rw (lt-leb (2 ^ 20) w (omega arith), e, due)
+early-kept : (last k w : ℕ) → w / 2 ^ 19 ≡ 1 → overdue last k ≡ false → earlyBreach last k w ≡ 0
+early-kept last k w e due = rw (lt-leb (2 ^ 20) w (omega arith), e, due)
 
 -- the same by the test of a word and of its clock, up to which rule 3 is kept
-pub early-by : (refi last k w until : ℕ) → (eqb (w / 2 ^ 19) 1 && leb k until) ≡ true
-    → ((j : ℕ) → j ≤ until → overdue refi last j ≡ false) → earlyBreach refi last k w ≡ 0
-early-by refi last k w until e due =
+pub early-by : (last k w until : ℕ) → (eqb (w / 2 ^ 19) 1 && leb k until) ≡ true
+    → ((j : ℕ) → j ≤ until → overdue last j ≡ false) → earlyBreach last k w ≡ 0
+early-by last k w until e due =
     let h = both (eqb (w / 2 ^ 19) 1) (leb k until) e in
-    early-kept refi last k w (eqb-true (w / 2 ^ 19) 1 (h .0)) (due k (leb-true k until (h .1)))
+    early-kept last k w (eqb-true (w / 2 ^ 19) 1 (h .0)) (due k (leb-true k until (h .1)))
 
 -- what rules 7 and 8 compare the pair of this first word with
 abbrev recentOf : Timestamps → ℕ → Recent
@@ -76,7 +76,7 @@ accessed p read write =
 
 -- the word at a place, where it keeps rules 1 to 3
 module _ (t : Timing) (ws : List ℕ) (p : Place) {w : ℕ} (inside : p .clock < length ws) (word : w ≡ getD ws (p .clock) 0)
-    (early : earlyBreach (t .refi) (getD (p .stamps .refs) 0 0) (p .clock) w ≡ 0) where
+    (early : earlyBreach (deadline (t .refi) (p .stamps .refs)) (p .clock) w ≡ 0) where
   pub idle-passes : high 18 (p .first) ≡ true → {first₁ : ℕ} → first₁ ≡ nextFirst (p .first) w
       → Passes t ws p (record { clock = p .clock + 1; first = first₁; stamps = p .stamps })
   idle-passes idle opened =
@@ -99,13 +99,13 @@ module _ (t : Timing) (ws : List ℕ) (p : Place) {w : ℕ} (inside : p .clock <
 
 -- a DESL word that rule 3 allows
 pub desl-passes : (t : Timing) (s : Timestamps) (ws : List ℕ) (k first : ℕ) → first ≡ 0xC0000 → k < length ws
-    → overdue (t .refi) (getD (s .refs) 0 0) k ≡ false → getD ws k 0 / 2 ^ 18 ≡ 3
+    → overdue (deadline (t .refi) (s .refs)) k ≡ false → getD ws k 0 / 2 ^ 18 ≡ 3
     → Passes t ws (record { clock = k; first = first; stamps = s }) (record { clock = k + 1; first = first; stamps = s })
 desl-passes t s ws k first closed inside due e =
     let w = getD ws k 0 in
     rw closed
     (idle-passes t ws (record { clock = k; first = 0xC0000; stamps = s }) inside refl
-    (early-kept (t .refi) (getD (s .refs) 0 0) k w (omega arith) due) refl (rw e))
+    (early-kept (deadline (t .refi) (s .refs)) k w (omega arith) due) refl (rw e))
 
 pub passed-on : {t : Timing} {ws : List ℕ} {p q r : Place} → Passed t ws p q → Passed t ws q r → Passed t ws p r
 passed-on before none = before

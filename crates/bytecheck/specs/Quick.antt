@@ -7,7 +7,7 @@ use lib.ListN.{getD}
 use Rattle.config.specs.declared.Timing.{Timing}
 use Rattle.command.specs.Pairs.{rda, lal}
 use Rattle.reading.specs.Reading.{laneReserved}
-use Rattle.rules.specs.Breaches.{near, overdue, notReady, tooClose}
+use Rattle.rules.specs.Breaches.{near, deadline, overdue, notReady, tooClose}
 use Rattle.stamps.specs.declared.Timestamps.{Timestamps}
 use Rattle.bytecheck.specs.Passed.{Passed}
 use Rattle.bytecheck.specs.declared.quick.Recent.{Recent}
@@ -33,5 +33,5 @@ pub record Clear (t : Timing) (recent : Recent) (k first word : ℕ) : Type 0 wh
 abbrev pub DeslPassed : ℕ → ℕ → List ℕ → ℕ → ℕ → Type 0
 DeslPassed first until words k j =
     (t : Timing) (s : Timestamps)
-    → ((i : ℕ) → i ≤ until → overdue (t .refi) (getD (s .refs) 0 0) i ≡ false)
+    → ((i : ℕ) → i ≤ until → overdue (deadline (t .refi) (s .refs)) i ≡ false)
     → Passed t words (record { clock = k; first = first; stamps = s }) (record { clock = j; first = first; stamps = s })

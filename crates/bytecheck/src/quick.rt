@@ -7,6 +7,7 @@ use command::pins::FN;
 use command::pins::PD;
 use command::pins::high;
 use config::Timing;
+use rules::deadline;
 use stamps::DESL;
 use stamps::Timestamps;
 use stamps::next_first;
@@ -29,14 +30,11 @@ fn plus(stamp: u32, clocks: u32) -> u64
     stamp as u64 + clocks as u64
 }
 
-// The last clock that rule 3 allows; any one where there was no REF word yet.
-fn due(refi: u32, last: u32) -> u64
-    ensures { λ r. ⌜ ((k : ℕ) → k ≤ r → overdue refi last k ≡ false) ⌝ }
+// A clock up to which rule 3 is kept: the last that it allows, or any where there was no REF word yet.
+fn due(last: u64) -> u64
+    ensures { λ r. ⌜ ((k : ℕ) → k ≤ r → overdue last k ≡ false) ⌝ }
 {
-    if last == 0 {
-        return NEVER;
-    }
-    plus(last, refi)
+    if last == 0 { NEVER } else { last }
 }
 
 fn later(a: u64, b: u64) -> u64
@@ -124,7 +122,8 @@ pub(crate) fn skimmed(timing: Timing, bytes: &[u8], from: Place) -> Place
     let mut first = from.first;
     let mut clock = from.clock;
     // Reads and writes change neither of these.
-    let until = due(timing.refi(), stamps.refs[0]);
+    let refs = stamps.refs;
+    let until = due(deadline(timing.refi(), refs));
     let settled = settled_from(timing, stamps);
     while (clock as usize) < bytes.len() / 4 {
         let word = words::word_at(bytes, clock as usize);

@@ -29,7 +29,7 @@ use Rattle.model.specs.Laid.{breachless}
 use Rattle.model.proofs.Figures.{Figures}
 use Rattle.roundtrip.proofs.SoundPair.{sound-tests}
 use Rattle.model.proofs.Spacings.{AccessFree, sound-first, access-closes}
-use Rattle.model.proofs.InTime.{lastRef, Normal, in-time, next-in-time}
+use Rattle.model.proofs.InTime.{lastRef, Normal, in-time}
 use Rattle.model.proofs.Turn.{idle, closes-with-lal}
 
 -- the last access of a bank is no later than the last read or the last write
@@ -107,7 +107,6 @@ module _ (t : Timing) (f : Figures t) (ps : List ClosedPair) (k : ℕ) (n : Norm
     access-opens c =
         let a = access-free c in
         let w = sound-tests t first second (a .sound) in
-        let h = next-in-time t f ps k n in
         let before = ordered-mono k (k + 1 - 1) (omega arith) ps (n .ordered) in
         rw
-        (breach-is t none k ps first (n .ordered), sound-first t (summary ps) k first second (inr (omega arith)) (a .sound), w .cs, breach-is t (some first) (k + 1) ps second (omega arith, before, rw (w .cs)), access-closes t (summary ps) (k + 1) first second (in-time t f ps k n) a)
+        (breach-is t none k ps first (n .ordered), sound-first t (summary ps) k first second (in-time t f ps k n k (omega arith)) (a .sound), w .cs, breach-is t (some first) (k + 1) ps second (omega arith, before, rw (w .cs)), access-closes t (summary ps) (k + 1) first second (in-time t f ps k n (k + 1) (le-refl (k + 1))) a)

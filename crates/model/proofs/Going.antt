@@ -27,9 +27,10 @@ use Rattle.model.specs.Laid.{Course, start, candidate, breachless, openi
 use Rattle.model.specs.Runs.{requestOf, requestsOf, starts, isAccess, accessOpen}
 use Rattle.model.proofs.Figures.{Figures}
 use Rattle.model.proofs.Candidates.{Due, candidate-due, fits-open}
-use Rattle.model.proofs.Spacings.{InTime, not-overdue}
-use Rattle.model.proofs.InTime.{lastRef, next-in-time}
+use Rattle.model.proofs.Spacings.{InTime}
+use Rattle.model.proofs.InTime.{lastRef, by-gaps, in-time}
 use Rattle.model.proofs.Turn.{pairAt, idle, closes-with-lal}
+use Rattle.model.proofs.StartUp.{modes}
 use Rattle.model.proofs.Phases.{Phase, Next, begin, after-extended, after-regular, after-refresh, settled, phase-turn}
 use Rattle.model.proofs.Soonest.{soonest, soonest-pace}
 use Rattle.model.proofs.Punctual.{Punctual}
@@ -98,20 +99,18 @@ module _ (t : Timing) (f : Figures t) where
     pub met : (all : List ℕ) → Met (firstsOf c) all Bs → Met (firstsOf (a .after)) all left
 
   phase-in-time : (ps : List ClosedPair) (k : ℕ) → Phase t f ps k → InTime t (summary ps) k
-  phase-in-time ps k (begin e z) = rw e (inl refl)
-  phase-in-time ps k (after-extended e low high) = rw e (inl refl)
-  phase-in-time ps k (after-regular g early late e low high) = rw e (inl refl)
+  phase-in-time ps k (begin e z) = rw e
+  phase-in-time ps k (after-extended e low high) = rw e
+  phase-in-time ps k (after-regular g early late e low high) = rw e
   phase-in-time ps k (after-refresh g e early late after by is low high) =
       let long = f .refi in
       let short = f .refc .1 in
       let shorter = f .rsc .1 in
-      rw is (inr (omega arith))
-  phase-in-time ps k (settled done n) =
-      let h = next-in-time t f ps k n in
-      inr (omega arith)
+      rw is (by-gaps t (pairAt t e Refresh ∷ modes t f g early late) k (omega arith, tt))
+  phase-in-time ps k (settled done n) = in-time t f ps k n k (omega arith)
 
   desl-passes : (ps : List ClosedPair) (k : ℕ) → Ordered k ps → InTime t (summary ps) k → breachAt t (idle k ps) 0xC0000 ≡ 0
-  desl-passes ps k o h = rw (breach-is t none k ps 0xC0000 o, not-overdue t (summary ps) k h)
+  desl-passes ps k o h = rw (breach-is t none k ps 0xC0000 o, h)
 
   module _ (ps : List ClosedPair) (k : ℕ) (ord : Ordered k ps) (ph : Phase t f ps k) where
     -- no pair opens

@@ -1,18 +1,22 @@
 -- After the start-up a refresh is never overdue: from r + D − RC on only a refresh opens, and what binds it runs out in time. Assumes
 -- nothing.
 use Prim.Native.Nat.{ℕ, _+_, _≤_, _<_}
-use mathlib.Core.Path.{_≡_}
+use mathlib.Core.Path.{_≡_, sym, _∙_}
 use mathlib.Core.Bool.{Bool, true, false, cond, not}
 use mathlib.Core.List.{List, _∷_}
+use mathlib.Core.Option.{none}
 use mathlib.Core.Logic.{_⊎_, inl, inr, ⊎-elim}
 use native.Mathlib.Omega.{arith}
+use native.Mathlib.Nat.{le-refl}
 use lib.ListN.{getD}
 use Rattle.config.specs.declared.Timing.{Timing}
-use Rattle.rules.specs.History.{ClosedPair}
+use Rattle.rules.specs.History.{ClosedPair, Past}
 use Rattle.rules.specs.Rules.{closings, oldest, wasRead, wasWrite, wasMode, wasRegular, wasExtended, wasRefresh}
 use Rattle.rules.proofs.Newest.{Ordered, latest, latest-cons}
 use Rattle.rules.proofs.Summary.{summary}
+use Rattle.rules.proofs.Tests.{overdue-is}
 use Rattle.rules.proofs.Words.{ordered-mono}
+use Rattle.former.proofs.Gaps.{Gaps, gaps-cons, short-gaps}
 use Rattle.model.proofs.Figures.{Figures}
 use Rattle.model.proofs.Intervals.{closings-fall, eighth}
 use Rattle.model.proofs.Spacings.{InTime, RefreshFree}
@@ -38,6 +42,8 @@ pub record Normal (t : Timing) (ps : List ClosedPair) (k : ℕ) : Type 0 where
   pub ordered : Ordered k ps
   pub ready : Ready ps
   pub last : lastRef ps < k
+  -- each REF word is at most D after the one before it
+  pub gaps : Gaps (t .refi) (closings wasRefresh ps)
   -- mode pairs are of the start-up alone
   pub mode : latest wasMode ps + t .rsc ≤ 31
   -- reads and writes began before a refresh was called for
@@ -56,6 +62,12 @@ latest-moved ps k p at g n G new old = rw (latest-cons g p ps) (by (g p))
         omega arith
     by false = old
 
+-- where the gaps up to k are short, no refresh is overdue there
+pub by-gaps : (t : Timing) (ps : List ClosedPair) (k : ℕ) → Gaps (t .refi) (k ∷ closings wasRefresh ps) → InTime t (summary ps) k
+by-gaps t ps k g =
+    let p : Past = record { clock = k; opened = none; pairs = ps } in
+    sym (overdue-is t p 0) ∙ short-gaps t p 0 g
+
 module _ (t : Timing) (f : Figures t) (ps : List ClosedPair) (k : ℕ) (n : Normal t ps k) where
   -- the next word is in time too
   pub next-in-time : k + 1 ≤ lastRef ps + t .refi
@@ -65,8 +77,14 @@ module _ (t : Timing) (f : Figures t) (ps : List ClosedPair) (k : ℕ) (n : Norm
       let h₃ = n .write in
       ⊎-elim (λ h. omega arith) (λ h. ⊎-elim (λ h. omega arith) (λ h. omega arith) h) (n .timely)
 
-  pub in-time : InTime t (summary ps) (k + 1)
-  in-time = inr next-in-time
+  -- and so is every word up to it
+  next-gap : (j : ℕ) → j ≤ k + 1 → Gaps (t .refi) (j ∷ closings wasRefresh ps)
+  next-gap j h =
+      let l = next-in-time in
+      gaps-cons (t .refi) j (closings wasRefresh ps) (omega arith) (n .gaps)
+
+  pub in-time : (j : ℕ) → j ≤ k + 1 → InTime t (summary ps) j
+  in-time j h = by-gaps t ps j (next-gap j h)
 
   -- once called for, a refresh may open as soon as RC clocks have passed since the last read and the last write
   pub refresh-free : lastRef ps + t .refi ≤ k + t .rc → latest wasRead ps + t .rc ≤ k + 1 → latest wasWrite ps + t .rc ≤ k + 1
@@ -98,6 +116,7 @@ module _ (t : Timing) (f : Figures t) (ps : List ClosedPair) (k : ℕ) (n : Norm
         ordered = ordered-mono k (k + 1) (omega arith) ps (n .ordered);
         ready = n .ready;
         last = omega arith;
+        gaps = n .gaps;
         mode = n .mode;
         read = n .read;
         write = n .write;
@@ -130,6 +149,7 @@ module _ (t : Timing) (f : Figures t) (ps : List ClosedPair) (k : ℕ) (n : Norm
           ordered = ordered;
           ready = still-ready m e;
           last = rw e (omega arith);
+          gaps = rw e (n .gaps);
           mode = rw m (n .mode);
           read = rw e (latest-moved ps k p at wasRead (t .rc) (lastRef ps + t .refi) (omega arith) reads);
           write = rw e (latest-moved ps k p at wasWrite (t .rc) (lastRef ps + t .refi) (omega arith) writes);
@@ -164,6 +184,7 @@ module _ (t : Timing) (f : Figures t) (ps : List ClosedPair) (k : ℕ) (n : Norm
                 second = rw e (n .ready .refresh);
               };
           last = rw (e, at) (omega arith);
+          gaps = rw (e, at) (next-gap (k + 1) (le-refl (k + 1)));
           mode = rw m (n .mode);
           read = rw (e, r, at) (omega arith);
           write = rw (e, w, at) (omega arith);

@@ -62,12 +62,13 @@ module _ (t : Timing) (f : Figures t) where
   Next ps k (some o) = Phase (pairAt t k o ∷ ps) (k + 2)
 
   -- the start-up is over with its second refresh
-  settle : (g e k : ℕ) → 2 ≤ g → g ≤ t .rsc → g + 2 ≤ e → e ≤ 2 * t .rsc → e + 2 ≤ k
+  settle : (g e k : ℕ) → 2 ≤ g → g ≤ t .rsc → g + 2 ≤ e → e ≤ 2 * t .rsc → e + 2 ≤ k → k ≤ 2 * t .rsc + t .refc
       → Phase (pairAt t k Refresh ∷ pairAt t e Refresh ∷ regular t f g ∷ extended t f ∷ []) (k + 2)
-  settle g e k early late after by low =
+  settle g e k early late after by low high =
       let long = f .refi in
       let rc = f .rc .1 in
       let rsc = f .rsc .1 in
+      let refc = f .refc .1 in
       settled (rw (pins t f .closes, pins t f .ba0))
       (record {
         ordered = (omega arith, (omega arith, (omega arith, (omega arith, tt))));
@@ -79,6 +80,7 @@ module _ (t : Timing) (f : Figures t) where
               second = omega arith;
             };
         last = omega arith;
+        gaps = (omega arith, tt);
         mode = rw (pins t f .closes) (omega arith);
         read = rw (pins t f .closes) (omega arith);
         write = omega arith;
@@ -98,7 +100,7 @@ module _ (t : Timing) (f : Figures t) where
   phase-turn ps k rs a (after-refresh g e early late after by is low high) =
       let next : candidate t (idle k (pairAt t e Refresh ∷ regular t f g ∷ extended t f ∷ [])) rs ≡ some Refresh = rw (pins t f .closes, pins t f .ba0) in
       rw (is, next)
-      (⊎-elim (λ h. rw h (settle g e k early late after by low)) (λ h. rw (h .0) (let l = h .1 in after-refresh g e early late after by refl (omega arith) (omega arith))) (second-refresh-turn t f g early late e k after by low high))
+      (⊎-elim (λ h. rw h (settle g e k early late after by low high)) (λ h. rw (h .0) (let l = h .1 in after-refresh g e early late after by refl (omega arith) (omega arith))) (second-refresh-turn t f g early late e k after by low high))
   phase-turn ps k rs a (settled done n) = go (opening t (idle k ps) (candidate t (idle k ps) rs)) (turn t f ps k n rs a done)
     where
       go : (o : Option Operation) → Turned t f ps k n o → Next ps k o

@@ -9,7 +9,7 @@ use Rattle.config.specs.declared.Timing.{Timing}
 use Rattle.roundtrip.proofs.SoundPair.{sound-tests}
 use Rattle.command.specs.Pairs.{rda, lal}
 use Rattle.reading.specs.Reading.{soundPair}
-use Rattle.rules.specs.Breaches.{near, overdue, bankStamp, notReady, wordBreach}
+use Rattle.rules.specs.Breaches.{near, deadline, overdue, bankStamp, notReady, wordBreach}
 use Rattle.stamps.specs.declared.Timestamps.{Timestamps}
 
 -- the spacing n behind an event at c, if there was one, has run out by k
@@ -20,13 +20,9 @@ pub over-near : (k c n : ℕ) → Over k c n → near k c n ≡ false
 over-near k c n (inl e) = rw e
 over-near k c n (inr h) = rw (le-ltb k (c + n) h, and-false)
 
--- no REF word is overdue at k
+-- no refresh is overdue at k
 abbrev pub InTime : Timing → Timestamps → ℕ → Type 0
-InTime t s k = (getD (s .refs) 0 0 ≡ 0) ⊎ (k ≤ getD (s .refs) 0 0 + t .refi)
-
-pub not-overdue : (t : Timing) (s : Timestamps) (k : ℕ) → InTime t s k → overdue (t .refi) (getD (s .refs) 0 0) k ≡ false
-not-overdue t s k (inl e) = rw e
-not-overdue t s k (inr h) = rw (le-ltb (getD (s .refs) 0 0 + t .refi) k h, and-false)
+InTime t s k = overdue (deadline (t .refi) (s .refs)) k ≡ false
 
 -- what binds a refresh that closes at k
 pub record RefreshFree (t : Timing) (s : Timestamps) (k : ℕ) : Type 0 where
@@ -37,11 +33,11 @@ pub record RefreshFree (t : Timing) (s : Timestamps) (k : ℕ) : Type 0 where
   pub window : Over k (getD (s .refs) 7 0) (t .window)
 
 pub refresh-first : (t : Timing) (s : Timestamps) (k : ℕ) → InTime t s k → wordBreach t s k 0xC0000 0x80000 ≡ 0
-refresh-first t s k h = rw (not-overdue t s k h)
+refresh-first t s k h = rw h
 
 pub refresh-closes : (t : Timing) (s : Timestamps) (k : ℕ) → InTime t s k → RefreshFree t s k → wordBreach t s k 0x80000 0x80000 ≡ 0
 refresh-closes t s k h f =
-    rw (not-overdue t s k h, over-near k (s .mode) (t .rsc) (f .mode), over-near k (getD (s .refs) 0 0) (t .refc) (f .refresh), over-near k (s .read) (t .rc) (f .read), over-near k (s .write) (t .rc) (f .write), over-near k (getD (s .refs) 7 0) (t .window) (f .window))
+    rw (h, over-near k (s .mode) (t .rsc) (f .mode), over-near k (getD (s .refs) 0 0) (t .refc) (f .refresh), over-near k (s .read) (t .rc) (f .read), over-near k (s .write) (t .rc) (f .write), over-near k (getD (s .refs) 7 0) (t .window) (f .window))
 
 -- what binds a mode pair that closes at k where no read or write has been
 pub record ModeFree (t : Timing) (s : Timestamps) (k first second : ℕ) : Type 0 where
@@ -58,7 +54,7 @@ pub mode-closes : (t : Timing) (s : Timestamps) (k first second : ℕ) → InTim
 mode-closes t s k first second h f =
     let w = sound-tests t first second (f .sound) in
     rw (w .mode, w .lane)
-    (rw (not-overdue t s k h, w .stray₂, w .pd₂, w .cs, f .closes, f .rda, f .read, f .write, over-near k (s .mode) (t .rsc) (f .mode), over-near k (getD (s .refs) 0 0) (t .refc) (f .refresh)))
+    (rw (h, w .stray₂, w .pd₂, w .cs, f .closes, f .rda, f .read, f .write, over-near k (s .mode) (t .rsc) (f .mode), over-near k (getD (s .refs) 0 0) (t .refc) (f .refresh)))
 
 -- what binds a read or write that closes at k, with these words
 pub record AccessFree (t : Timing) (s : Timestamps) (k first second : ℕ) : Type 0 where
@@ -77,10 +73,10 @@ pub sound-first : (t : Timing) (s : Timestamps) (k first second : ℕ) → InTim
     → wordBreach t s k 0xC0000 first ≡ 0
 sound-first t s k first second h e =
     let w = sound-tests t first second e in
-    rw (not-overdue t s k h, w .stray₁, w .pd₁)
+    rw (h, w .stray₁, w .pd₁)
 
 pub access-closes : (t : Timing) (s : Timestamps) (k first second : ℕ) → InTime t s k → AccessFree t s k first second
     → wordBreach t s k first second ≡ 0
 access-closes t s k first second h f =
     let w = sound-tests t first second (f .sound) in
-    rw (w .mode, w .lane) (simp (not-overdue t s k h, w .stray₂, w .pd₂, w .cs, f .lal, f .ready, over-near k (bankStamp s first) (t .rc) (f .bank), over-near k (s .read) (t .rbd) (f .read), over-near k (s .write) (t .rbd) (f .write), over-near k (s .read) (t .rwd + 1) (f .turn-write), over-near k (s .write) (t .wrd + 1) (f .turn-read), over-near k (s .mode) (t .rsc) (f .mode), over-near k (getD (s .refs) 0 0) (t .refc) (f .refresh), and-false))
+    rw (w .mode, w .lane) (simp (h, w .stray₂, w .pd₂, w .cs, f .lal, f .ready, over-near k (bankStamp s first) (t .rc) (f .bank), over-near k (s .read) (t .rbd) (f .read), over-near k (s .write) (t .rbd) (f .write), over-near k (s .read) (t .rwd + 1) (f .turn-write), over-near k (s .write) (t .wrd + 1) (f .turn-read), over-near k (s .mode) (t .rsc) (f .mode), over-near k (getD (s .refs) 0 0) (t .refc) (f .refresh), and-false))

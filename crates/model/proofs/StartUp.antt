@@ -23,6 +23,7 @@ use Rattle.rules.proofs.Newest.{Ordered}
 use Rattle.model.specs.Laid.{breachless, opening}
 use Rattle.model.proofs.Figures.{Figures}
 use Rattle.model.proofs.Spacings.{mode-closes}
+use Rattle.model.proofs.InTime.{by-gaps}
 use Rattle.model.proofs.Turn.{pairAt, idle, refresh-opens}
 
 -- a pair that may open at the limit opens there at the latest
@@ -86,7 +87,7 @@ module _ (t : Timing) (f : Figures t) where
           let o : Ordered k (extended ∷ []) = (omega arith, tt) in
           let o₁ : Ordered (k + 1 - 1) (extended ∷ []) = (omega arith, tt) in
           rw
-          (breach-is t none k (extended ∷ []) 0xA0000 o, breach-is t (some 0xA0000) (k + 1) (extended ∷ []) mrs (omega arith, o₁, refl), mode-closes t (summary (extended ∷ [])) (k + 1) 0xA0000 mrs (inl refl) (record { sound = written .0; closes = pins .closes; rda = refl; read = refl; write = refl; mode = inr (omega arith); refresh = inl refl }))
+          (breach-is t none k (extended ∷ []) 0xA0000 o, breach-is t (some 0xA0000) (k + 1) (extended ∷ []) mrs (omega arith, o₁, refl), mode-closes t (summary (extended ∷ [])) (k + 1) 0xA0000 mrs refl (record { sound = written .0; closes = pins .closes; rda = refl; read = refl; write = refl; mode = inr (omega arith); refresh = inl refl }))
 
   -- the two refreshes, after a regular mode that opened at g
   module _ (g : ℕ) (early : 2 ≤ g) (late : g ≤ t .rsc) where
@@ -96,7 +97,7 @@ module _ (t : Timing) (f : Figures t) where
     pub first-refresh-turn : (k : ℕ) → g + 2 ≤ k → Waits t (idle k modes) Refresh k (2 * t .rsc)
     first-refresh-turn k low =
         waits t (idle k modes) Refresh k (2 * t .rsc)
-        (λ h. refresh-opens t modes k (omega arith, (omega arith, tt)) (inl refl) (inl refl)
+        (λ h. refresh-opens t modes k (omega arith, (omega arith, tt)) refl refl
         (record {
           mode = rw (pins .closes) (inr (omega arith));
           refresh = inl refl;
@@ -112,7 +113,7 @@ module _ (t : Timing) (f : Figures t) where
         let short = f .refc .1 in
         let shorter = f .rsc .1 in
         waits t (idle k (pairAt t e Refresh ∷ modes)) Refresh k (2 * t .rsc + t .refc)
-        (λ h. refresh-opens t (pairAt t e Refresh ∷ modes) k (omega arith, (omega arith, (omega arith, tt))) (inr (omega arith)) (inr (omega arith))
+        (λ h. refresh-opens t (pairAt t e Refresh ∷ modes) k (omega arith, (omega arith, (omega arith, tt))) (by-gaps t (pairAt t e Refresh ∷ modes) k (omega arith, tt)) (by-gaps t (pairAt t e Refresh ∷ modes) (k + 1) (omega arith, tt))
         (record {
           mode = rw (pins .closes) (inr (omega arith));
           refresh = inr (omega arith);

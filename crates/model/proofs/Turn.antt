@@ -6,6 +6,7 @@ use mathlib.Core.List.{List, [], _∷_}
 use mathlib.Core.Option.{Option, none, some}
 use mathlib.Core.Logic.{inl, inr}
 use native.Mathlib.Omega.{arith}
+use native.Mathlib.Nat.{le-refl}
 use borrow.Author.Tests.{leb-true, leb-false}
 use lib.Dec.{leb}
 use Rattle.config.specs.declared.Timing.{Timing}
@@ -27,7 +28,7 @@ use Rattle.model.specs.Laid.{startUp, refreshDue, oldestOf, candidate, b
 use Rattle.model.proofs.Figures.{Figures}
 use Rattle.model.proofs.Candidates.{AllFit}
 use Rattle.model.proofs.Spacings.{InTime, RefreshFree, refresh-first, refresh-closes}
-use Rattle.model.proofs.InTime.{lastRef, Normal, in-time, next-in-time, refresh-free, Held, after-desl, after-access, after-refresh}
+use Rattle.model.proofs.InTime.{lastRef, Normal, in-time, refresh-free, Held, after-desl, after-access, after-refresh}
 
 -- the closed pair of an operation that opened at u
 abbrev pub pairAt : Timing → ℕ → Operation → ClosedPair
@@ -73,8 +74,7 @@ module _ (t : Timing) (f : Figures t) (ps : List ClosedPair) (k : ℕ) (n : Norm
       by true true p q =
           let read = leb-true (latest wasRead ps + t .rc) (k + 1) p in
           let write = leb-true (latest wasWrite ps + t .rc) (k + 1) q in
-          let h = next-in-time t f ps k n in
-          let opens = refresh-opens t ps k (n .ordered) (inr (omega arith)) (in-time t f ps k n) (refresh-free t f ps k n due read write) in
+          let opens = refresh-opens t ps k (n .ordered) (in-time t f ps k n k (omega arith)) (in-time t f ps k n (k + 1) (le-refl (k + 1))) (refresh-free t f ps k n due read write) in
           absurd (true≢false (sym opens ∙ e))
       by false b p q = inr (inl (leb-false (latest wasRead ps + t .rc) (k + 1) p))
       by true false p q = inr (inr (leb-false (latest wasWrite ps + t .rc) (k + 1) q))

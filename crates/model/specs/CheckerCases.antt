@@ -1,5 +1,5 @@
--- The figures of sheet E, and cases b to h of the paper's section "Clocks on either edge, sheet E", as rows of one table. Cases puts case a
--- before them, and computes all.
+-- The figures of sheet E, and cases b to h of the paper's section "Clocks on either edge, sheet E", as rows of one table; behind case e
+-- the edges of rule 3 for one REF word and for more than eight. Cases puts case a before them, and computes all.
 use Prim.Native.Nat.{ℕ, _+_, _-_, _*_}
 use mathlib.Core.Bool.{Bool, true, _&&_}
 use mathlib.Core.List.{List, [], _∷_, _++_}
@@ -12,6 +12,7 @@ use Rattle.writing.specs.Writing.{writePair}
 use Rattle.command.specs.declared.operation.Operation.the-variants.{Access}
 use Rattle.command.specs.declared.operation.Pair.{Pair}
 use Rattle.rules.specs.Verdict.{Judgement, accepted, breach, checkOf}
+use Rattle.former.specs.Former.{formerJudge}
 
 -- a pair at a clock
 pub record At : Type 0 where
@@ -44,6 +45,18 @@ writeAt k b = pair k (0x80000 + b) 0xD1000
 abbrev pub modeAt : ℕ → At
 modeAt k = pair k 0xA0000 0x80042
 
+-- a refresh at clock k
+abbrev pub refreshAt : ℕ → At
+refreshAt k = pair k 0x80000 0x80000
+
+-- refreshes behind those of the start-up, as soon as rules 10 and 12 allow: the REF words before them are at 15 and 33, and these at 51, 69,
+-- 87, 105, 123, 141, 656 and 674
+abbrev pub nine : List At
+nine = refreshAt 50 ∷ refreshAt 68 ∷ refreshAt 86 ∷ refreshAt 104 ∷ refreshAt 122 ∷ refreshAt 140 ∷ refreshAt 655 ∷ []
+
+abbrev pub ten : List At
+ten = nine ++ (refreshAt 673 ∷ [])
+
 -- the pins of bank 1
 abbrev pub bank1 : ℕ
 bank1 = 0x4000
@@ -54,9 +67,13 @@ number (value accepted) = 0
 number (value (breach k n)) = k * 100 + n
 number (refused n) = n
 
+-- the verdict on these pairs, and DESL behind them
+abbrev pub verdictOf : List At → ℕ → ℕ
+verdictOf ps more = number (checkOf institute (words 0 ps more))
+
 -- the verdict on the start-up, these pairs, and DESL behind them
 abbrev pub verdictOn : List At → ℕ → ℕ
-verdictOn ps more = number (checkOf institute (words 0 (startUpPairs ++ ps) more))
+verdictOn ps more = verdictOf (startUpPairs ++ ps) more
 
 -- sheet E with another period
 abbrev pub withPeriod : ℕ → Config
@@ -109,10 +126,20 @@ checkerCases =
     ∷ row (verdictOn (readAt 201 0 ∷ writeAt 204 bank1 ∷ []) 0) 20508
     -- d (RULES 4.8): after a write a read of another bank, WRD behind the LAL
     ∷ row (verdictOn (writeAt 201 0 ∷ readAt 203 bank1 ∷ []) 0) 0
-    -- e (RULES 4.3): the REF after that at 33, D later; then none, up to that clock and one clock more
-    ∷ row (verdictOn (pair 812 0x80000 0x80000 ∷ []) 0) 0
-    ∷ row (verdictOn [] 780) 0
-    ∷ row (verdictOn [] 781) 81403
+    -- e (RULES 4.3): the REF after that at 33, D later; then none, up to 2 × D after the one at 15 and one clock more
+    ∷ row (verdictOn (refreshAt 812 ∷ []) 0) 0
+    ∷ row (verdictOn [] 1542) 0
+    ∷ row (verdictOn [] 1543) 157603
+    -- the former rule 3 went by the one at 33 alone, so not all that passes passed before
+    ∷ row (number (value (formerJudge (derived institute) (words 0 startUpPairs 1542)))) 81403
+    -- one REF word, at 15, up to D after it and one clock more
+    ∷ row (verdictOf (refreshAt 14 ∷ []) 780) 0
+    ∷ row (verdictOf (refreshAt 14 ∷ []) 781) 79603
+    -- nine and ten REF words, up to 8 × D after the eighth last, which is at 33 and at 51, and one clock more
+    ∷ row (verdictOn nine 5617) 0
+    ∷ row (verdictOn nine 5618) 627403
+    ∷ row (verdictOn ten 5617) 0
+    ∷ row (verdictOn ten 5618) 629203
     -- f (RULES 4.11): after a read a mode, CL + BL / 2 behind the LAL and one clock less
     ∷ row (verdictOn (readAt 201 0 ∷ modeAt 208 ∷ []) 0) 0
     ∷ row (verdictOn (readAt 201 0 ∷ modeAt 207 ∷ []) 0) 20811

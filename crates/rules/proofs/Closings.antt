@@ -40,6 +40,11 @@ closings-past0 f (p ∷ ps) = go (f p) (closings-past0 f ps)
     go true h = (omega arith, h)
     go false h = h
 
+pub each-past0 : (ks : List ℕ) → Past0 ks → (i : ℕ) → suc i ≤ length ks → 1 ≤ getD ks i 0
+each-past0 [] h i l = absurd (omega arith)
+each-past0 (k ∷ ks) h zero l = h .0
+each-past0 (k ∷ ks) h (suc i) l = each-past0 ks (h .1) i (omega arith)
+
 pub nonzero : (k : ℕ) → 1 ≤ k → eqb k 0 ≡ false
 nonzero k h = ne-eqb k 0 (λ e. omega arith)
 

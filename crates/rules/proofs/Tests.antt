@@ -1,18 +1,20 @@
 -- Each published rule, over the whole history, is the test of what is kept of it. Assumes nothing.
-use Prim.Native.Nat.{ℕ, zero, suc, _+_, _-_, _≤_, _/_}
+use Prim.Native.Nat.{ℕ, zero, suc, _+_, _-_, _*_, _≤_, _/_, min}
 use mathlib.Core.Path.{_≡_, refl, sym, _∙_, ap, ap₂}
-use mathlib.Core.Bool.{Bool, true, false, cond, _&&_, _||_, Bool·not-not}
+use mathlib.Core.Bool.{Bool, true, false, cond, not, _&&_, _||_, Bool·not-not}
 use mathlib.Core.List.{List, [], _∷_}
 use native.Mathlib.Omega.{arith}
-use lib.ListN.{getD}
-use lib.Dec.{eqb, ltb}
+use native.Mathlib.Nat.{min-zero}
+use borrow.Author.Tests.{le-leb, leb-true, leb-false}
+use lib.ListN.{length, getD}
+use lib.Dec.{eqb, leb, ltb}
 use Rattle.config.specs.declared.Timing.{Timing}
 use Rattle.command.specs.Pairs.{rda, lal, isRefresh}
 use Rattle.rules.specs.History.{ClosedPair, Past}
 use Rattle.command.specs.Pairs.{bankOf}
 use Rattle.rules.specs.Rules.{wasRead, wasWrite, wasAccess, wasMode, wasRefresh, wasRegular, wasExtended, earlier, closings, oldest, rule3, rule6, rule7, rule8, rule9, rule10, rule11, rule12}
-use Rattle.rules.specs.Breaches.{near, overdue, bankStamp, notReady, tooClose, busy}
-use Rattle.rules.proofs.Closings.{ltb-same, closings-past0, counted, oldest-counted}
+use Rattle.rules.specs.Breaches.{near, deadlineBy, deadline, overdue, bankStamp, notReady, tooClose, busy}
+use Rattle.rules.proofs.Closings.{Past0, ltb-same, closings-past0, each-past0, nonzero, counted, oldest-counted}
 use Rattle.rules.proofs.Newest.{Ordered, latest, since-start, since-closing}
 use Rattle.rules.proofs.Summary.{summary, ofBank, get-bank, bank-bound}
 
@@ -44,12 +46,42 @@ closing-bound f b (p ∷ ps) o i = go (f p) i (closing-bound f (p .start) ps (o 
         let q = h i in
         omega arith
 
--- rule 3 looks at no open pair
-pub overdue-is : (t : Timing) (p : Past) (w : ℕ) → rule3 t p w ≡ overdue (t .refi) (getD (summary (p .pairs) .refs) 0 0) (p .clock)
+-- the last clock that rule 3 allows: it looks at no open pair
+module _ (refi : ℕ) (ks : List ℕ) (past : Past0 ks) where
+  -- by the m-th last of a list
+  abbrev behind : ℕ → ℕ
+  behind zero = 0
+  behind (suc i) = getD ks i 0 + suc i * refi
+
+  -- the place that counts is the last of the list, or its j-th
+  oldest-counts : (j : ℕ) → deadlineBy j refi ks ≡ behind (min (length ks) j)
+  oldest-counts zero = rw (min-zero (length ks))
+  oldest-counts (suc j) = by (oldest-counts j) (eqb (getD ks j 0) 0) refl
+    where
+      by : deadlineBy j refi ks ≡ behind (min (length ks) j) → (b : Bool) → eqb (getD ks j 0) 0 ≡ b
+          → cond b (deadlineBy j refi ks) (getD ks j 0 + suc j * refi) ≡ behind (min (length ks) (suc j))
+      by newer true e =
+          let few = leb-false (suc j) (length ks) (counted ks past j ∙ ap not e) in
+          let same : min (length ks) j ≡ min (length ks) (suc j) = omega arith in
+          newer ∙ ap behind same
+      by newer false e =
+          let many = leb-true (suc j) (length ks) (counted ks past j ∙ ap not e) in
+          let all : suc j ≡ min (length ks) (suc j) = omega arith in
+          ap behind all
+
+  allowed : (m k : ℕ) → m ≤ length ks → (leb 1 m && ltb (m * refi) (k - getD ks (m - 1) 0)) ≡ overdue (behind m) k
+  allowed zero k h = refl
+  allowed (suc i) k h =
+      let there = each-past0 ks past i h in
+      let place : suc i - 1 ≡ i = omega arith in
+      rw (place, le-leb 1 (suc i) (omega arith), nonzero (getD ks i 0 + suc i * refi) (omega arith))
+      (ltb-same (suc i * refi) (k - getD ks i 0) (getD ks i 0 + suc i * refi) k (λ q. omega arith) (λ q. omega arith))
+
+pub overdue-is : (t : Timing) (p : Past) (w : ℕ) → rule3 t p w ≡ overdue (deadline (t .refi) (summary (p .pairs) .refs)) (p .clock)
 overdue-is t p w =
     let refs = closings wasRefresh (p .pairs) in
-    ap₂ _&&_ (counted refs (closings-past0 wasRefresh (p .pairs)) 0)
-    (ltb-same (t .refi) (p .clock - getD refs 0 0) (getD refs 0 0 + t .refi) (p .clock) (λ h. omega arith) (λ h. omega arith))
+    let past = closings-past0 wasRefresh (p .pairs) in
+    allowed (t .refi) refs past (min (length refs) 8) (p .clock) (omega arith) ∙ ap (λ last. overdue last (p .clock)) (sym (oldest-counts (t .refi) refs past 8))
 
 module _ (t : Timing) (k : ℕ) (first second : ℕ) (ps : List ClosedPair) (o : Ordered (k - 1) ps) where
   pub ready-is : rule6 t ps (k - 1) first second ≡ (lal second && notReady (summary ps .extended) (summary ps .regular) (getD (summary ps .refs) 1 0) k)

@@ -18,7 +18,7 @@ use Rattle.rules.specs.History.{ClosedPair, Past, extend, extendBy, past
 use Rattle.rules.specs.Rules.{lowest, breachAt}
 use Rattle.rules.specs.Verdict.{Judgement, accepted, breach, lead, judgeFrom, judge}
 use Rattle.stamps.specs.Stamps.{remembered, nextStamps, nextFirst, never}
-use Rattle.rules.specs.Breaches.{overdue, closingBreach, wordBreach}
+use Rattle.rules.specs.Breaches.{deadline, overdue, closingBreach, wordBreach}
 use Rattle.stamps.specs.declared.Timestamps.{Timestamps}
 use Rattle.rules.proofs.Newest.{Ordered}
 use Rattle.rules.proofs.Summary.{summary, summary-step}
@@ -59,11 +59,11 @@ early-first false false false n = refl
 pub breach-is : (t : Timing) (o : Option ℕ) (k : ℕ) (ps : List ClosedPair) (w : ℕ) → Regular o k ps
     → breachAt t (record { clock = k; opened = o; pairs = ps }) w ≡ wordBreach t (summary ps) k (firstOf o) w
 breach-is t none k ps w r =
-    rw (overdue-is t (record { clock = k; opened = none; pairs = ps }) w) (early-first (strayBit w) (not (high 19 w)) (overdue (t .refi) (getD (summary ps .refs) 0 0) k) 0)
+    rw (overdue-is t (record { clock = k; opened = none; pairs = ps }) w) (early-first (strayBit w) (not (high 19 w)) (overdue (deadline (t .refi) (summary ps .refs)) k) 0)
 breach-is t (some first) k ps w r =
     rw
     (r .2, overdue-is t (record { clock = k; opened = some first; pairs = ps }) w, ready-is t k first w ps (r .1), bank-is t k first w ps (r .1), close-is t k first w ps (r .1), mode-is t k first w ps (r .1), refresh-is t k first w ps (r .1), busy-is t k first w ps (r .1), window-is t k first w ps (r .1) (r .0))
-    (early-first (strayBit w) (not (high 19 w)) (overdue (t .refi) (getD (summary ps .refs) 0 0) k) (closingBreach t (summary ps) k first w))
+    (early-first (strayBit w) (not (high 19 w)) (overdue (deadline (t .refi) (summary ps .refs)) k) (closingBreach t (summary ps) k first w))
 
 -- what is kept after the word
 pub stamps-is : (o : Option ℕ) (p : Past) (w : ℕ) → Regular o (p .clock) (p .pairs)

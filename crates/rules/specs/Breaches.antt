@@ -1,8 +1,8 @@
 -- The rules as tests of timestamps. At a closing word k, which is u + 1, k less a timestamp, which is t + 1, is u − t, and a spacing from
 -- t + 1 to u has 1 added to it here.
-use Prim.Native.Nat.{ℕ, _+_, _/_}
+use Prim.Native.Nat.{ℕ, zero, suc, _+_, _*_, _/_}
 use mathlib.Core.Bool.{Bool, cond, not, _&&_, _||_}
-use mathlib.Core.List.{[], _∷_}
+use mathlib.Core.List.{List, [], _∷_}
 use lib.ListN.{getD}
 use lib.Dec.{eqb, ltb}
 use Rattle.config.specs.declared.Timing.{Timing}
@@ -21,13 +21,23 @@ near k c n = not (eqb c 0) && ltb k (c + n)
 abbrev pub bankStamp : Timestamps → ℕ → ℕ
 bankStamp s first = getD (s .banks) (bankOf first) 0
 
--- rule 3, by D and the last REF word
-abbrev pub overdue : ℕ → ℕ → ℕ → Bool
-overdue refi last k = not (eqb last 0) && ltb (last + refi) k
+-- the last clock that rule 3 allows, by D and the last m REF words, newest first: D behind the oldest of them for it and for each newer
+-- one; 0 where there is none
+abbrev pub deadlineBy : ℕ → ℕ → List ℕ → ℕ
+deadlineBy zero refi refs = 0
+deadlineBy (suc i) refi refs = cond (eqb (getD refs i 0) 0) (deadlineBy i refi refs) (getD refs i 0 + suc i * refi)
 
--- rules 1 to 3
-abbrev pub earlyBreach : ℕ → ℕ → ℕ → ℕ → ℕ
-earlyBreach refi last k w = lowest 1 (strayBit w ∷ not (high 19 w) ∷ overdue refi last k ∷ [])
+-- the same by all eight that are kept
+abbrev pub deadline : ℕ → List ℕ → ℕ
+deadline refi refs = deadlineBy 8 refi refs
+
+-- rule 3, by that clock
+abbrev pub overdue : ℕ → ℕ → Bool
+overdue last k = not (eqb last 0) && ltb last k
+
+-- rules 1 to 3, by the same
+abbrev pub earlyBreach : ℕ → ℕ → ℕ → ℕ
+earlyBreach last k w = lowest 1 (strayBit w ∷ not (high 19 w) ∷ overdue last k ∷ [])
 
 -- rule 6, for a read or write: first extended and last regular MRS, last but one REF; from the extended MRS word to u are 200 clocks, to
 -- k 201
@@ -66,5 +76,5 @@ closingBreach t s k first second =
 -- the lowest breach at a word, with the first word of the open pair, or a word with CS high where none is open
 abbrev pub wordBreach : Timing → Timestamps → ℕ → ℕ → ℕ → ℕ
 wordBreach t s k first w =
-    let early = earlyBreach (t .refi) (getD (s .refs) 0 0) k w in
+    let early = earlyBreach (deadline (t .refi) (s .refs)) k w in
     cond (eqb early 0) (cond (opens first) (closingBreach t s k first w) 0) early

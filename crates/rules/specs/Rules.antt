@@ -1,6 +1,6 @@
 -- The rules (RULES 4) over the whole history of closed pairs. Each word, at its clock k, is held to rules 1 to 3; a closing word, whose
 -- pair began at u = k − 1, also to rules 4 to 12. An earlier pair began at t, so its LAL, MRS or REF stands at t + 1.
-use Prim.Native.Nat.{ℕ, suc, _+_, _-_, _/_}
+use Prim.Native.Nat.{ℕ, suc, _+_, _-_, _*_, _/_, min}
 use mathlib.Core.Bool.{Bool, false, cond, not, _&&_, _||_}
 use mathlib.Core.List.{List, [], _∷_, map}
 use mathlib.Core.Option.{Option, none, some}
@@ -56,19 +56,25 @@ oldest [] = 0
 oldest (k ∷ []) = k
 oldest (k ∷ j ∷ ks) = oldest (j ∷ ks)
 
+-- a rule: whether a word breaches it, after a past
+abbrev pub Rule : Type 0
+Rule = Timing → Past → ℕ → Bool
+
 -- rule 1 (RULES 4.1): a bit above 19 is set
-abbrev pub rule1 : Timing → Past → ℕ → Bool
+abbrev pub rule1 : Rule
 rule1 t p w = strayBit w
 
 -- rule 2 (RULES 4.2): PD is low
-abbrev pub rule2 : Timing → Past → ℕ → Bool
+abbrev pub rule2 : Rule
 rule2 t p w = not (high 19 w)
 
--- rule 3 (RULES 4.3): there is a REF word before k, and k is more than D after the last one
-abbrev pub rule3 : Timing → Past → ℕ → Bool
+-- rule 3 (RULES 4.3): m REF words stand before k, of more than eight the last eight; m is at least 1, and k is more than m × D after the
+-- m-th last
+abbrev pub rule3 : Rule
 rule3 t p w =
     let refs = closings wasRefresh (p .pairs) in
-    leb 1 (length refs) && ltb (t .refi) (p .clock - getD refs 0 0)
+    let m = min (length refs) 8 in
+    leb 1 m && ltb (m * t .refi) (p .clock - getD refs (m - 1) 0)
 
 -- rule 4 (RULES 4.4): an MRS with a wrong field
 abbrev pub rule4 : Timing → List ClosedPair → ℕ → ℕ → ℕ → Bool
@@ -124,7 +130,7 @@ rule12 t ps u first second =
     isRefresh first second && (leb 8 (length refs) && ltb (u + 1 - getD refs 7 0) (t .window))
 
 -- a rule that is judged at closing words alone: by the first word of the open pair, at u = k − 1
-abbrev pub atClosing : (Timing → List ClosedPair → ℕ → ℕ → ℕ → Bool) → Timing → Past → ℕ → Bool
+abbrev pub atClosing : (Timing → List ClosedPair → ℕ → ℕ → ℕ → Bool) → Rule
 atClosing rule t p w = by (p .opened)
   where
     by : Option ℕ → Bool
@@ -132,7 +138,7 @@ atClosing rule t p w = by (p .opened)
     by (some first) = rule t (p .pairs) (p .clock - 1) first w
 
 -- the twelve in their order: 1 to 3 at each word, 4 to 12 at each closing word
-abbrev pub rules : List (Timing → Past → ℕ → Bool)
+abbrev pub rules : List Rule
 rules =
     rule1
     ∷ rule2
@@ -153,6 +159,10 @@ abbrev pub lowest : ℕ → List Bool → ℕ
 lowest n [] = 0
 lowest n (b ∷ bs) = cond b n (lowest (suc n) bs)
 
--- the breach of the word w after the past p: its lowest number, or 0
+-- the breach of the word w after the past p, by a table of rules: its lowest number, or 0
+abbrev pub breachBy : List Rule → Timing → Past → ℕ → ℕ
+breachBy table t p w = lowest 1 (map (λ rule. rule t p w) table)
+
+-- the same by the rules
 abbrev pub breachAt : Timing → Past → ℕ → ℕ
-breachAt t p w = lowest 1 (map (λ rule. rule t p w) rules)
+breachAt t p w = breachBy rules t p w

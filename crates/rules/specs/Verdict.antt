@@ -9,7 +9,7 @@ use Rattle.config.specs.declared.Config.{Config}
 use Rattle.config.specs.declared.Timing.{Timing}
 use Rattle.words.specs.Words.{wordsOf}
 use Rattle.rules.specs.History.{Past, nothing, extend}
-use Rattle.rules.specs.Rules.{breachAt}
+use Rattle.rules.specs.Rules.{Rule, rules, breachBy}
 
 -- accepted, or a breach by its clock and its number
 pub data Judgement : Type 0 where
@@ -21,10 +21,15 @@ abbrev pub lead : ℕ → ℕ → Judgement → Judgement
 lead zero clock rest = rest
 lead (suc n) clock rest = breach clock (suc n)
 
--- the words that come after a past. A pair that is open at the end has no closing word, so nothing of it is judged (RULES 5.2).
+-- the words that come after a past, by a table of rules. A pair that is open at the end has no closing word, so nothing of it is judged
+-- (RULES 5.2).
+abbrev pub judgeBy : List Rule → Timing → Past → List ℕ → Judgement
+judgeBy table t p [] = accepted
+judgeBy table t p (w ∷ ws) = let rest = judgeBy table t (extend p w) ws in lead (breachBy table t p w) (p .clock) rest
+
+-- the same by the rules
 abbrev pub judgeFrom : Timing → Past → List ℕ → Judgement
-judgeFrom t p [] = accepted
-judgeFrom t p (w ∷ ws) = let rest = judgeFrom t (extend p w) ws in lead (breachAt t p w) (p .clock) rest
+judgeFrom t p words = judgeBy rules t p words
 
 -- a trace from power-up on (RULES 5.1)
 abbrev pub judge : Timing → List ℕ → Judgement

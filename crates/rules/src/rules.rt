@@ -13,7 +13,7 @@ ghost use Rattle.command.specs.Pairs.{lal};
 ghost use mathlib.Core.List.{[], _∷_};
 ghost use Prim.Native.Nat.{_+_};
 ghost use Rattle.rules.specs.Rules.{lowest};
-ghost use Rattle.rules.specs.Breaches.{near, earlyBreach, notReady, tooClose, busy, closingBreach, wordBreach};
+ghost use Rattle.rules.specs.Breaches.{near, deadline, earlyBreach, notReady, tooClose, busy, closingBreach, wordBreach};
 
 // An event at this timestamp, if there was one, is less than so many clocks, and so many more, ago.
 fn near(clock: u32, stamp: u32, limit: u32, more: u32) -> bool
@@ -35,11 +35,27 @@ fn lowest_early(stray: bool, low: bool, overdue: bool) -> u32
     if overdue { 3 } else { 0 }
 }
 
-// Rules 1 to 3 at a word, by the last REF word.
-fn early_breach(refi: u32, last: u32, clock: u32, word: u32) -> u32
-    ensures { λ r. ⌜ r ≡ earlyBreach refi last clock word ⌝ }
+// The last clock that rule 3 allows, by D and the last eight REF words: D behind the oldest of them, which is at the highest place that is
+// not 0, for it and for each newer one. 0 where there was no REF word yet.
+pub fn deadline(refi: u32, refs: [u32; 8]) -> u64
+    ensures { λ r. ⌜ r ≡ deadline refi refs ⌝ }
 {
-    let overdue = !(last == 0) & (last as u64 + (refi as u64) < clock as u64);
+    let mut m: usize = 8;
+    while 0 < m {
+        let oldest = refs[m - 1];
+        if oldest != 0 {
+            return oldest as u64 + m as u64 * refi as u64;
+        }
+        m -= 1;
+    }
+    0
+}
+
+// Rules 1 to 3 at a word, by the last clock that rule 3 allows, or 0.
+fn early_breach(last: u64, clock: u32, word: u32) -> u32
+    ensures { λ r. ⌜ r ≡ earlyBreach last clock word ⌝ }
+{
+    let overdue = !(last == 0) & (last < clock as u64);
     lowest_early(0x100000 <= word, !high(word, PD), overdue)
 }
 
@@ -136,7 +152,8 @@ pub fn word_breach(timing: Timing, stamps: Timestamps, clock: u32, first: u32, w
     ensures { λ r. ⌜ r ≡ wordBreach timing stamps clock first word ⌝ }
 {
     let refs = stamps.refs;
-    let early = early_breach(timing.refi(), refs[0], clock, word);
+    let last = deadline(timing.refi(), refs);
+    let early = early_breach(last, clock, word);
     if early != 0 {
         return early;
     }

@@ -12,7 +12,7 @@ use denote.Ref.{now}
 use Rattle.config.specs.declared.Timing.{Timing}
 use Rattle.words.specs.Words.{wordsOf}
 use Rattle.words.proofs.Listed.{words-length, word-listed}
-use Rattle.rules.specs.Breaches.{overdue, earlyBreach}
+use Rattle.rules.specs.Breaches.{deadline, overdue, earlyBreach}
 use Rattle.bytecheck.specs.Passed.{Passes, Passed, none, more}
 use Rattle.bytecheck.specs.Quick.{Settled, SettledFrom}
 use Rattle.bytecheck.specs.declared.place.Place.{Place}
@@ -25,7 +25,7 @@ record Skimming (t : Timing) (bytes : List ℕ) (from at : Place) (until settled
   fits : at .clock < 2 ^ 32
   passed : Passed t (wordsOf bytes) from at
   -- the two deadlines are right for the timestamps reached
-  due : (k : ℕ) → k ≤ until → overdue (t .refi) (getD (at .stamps .refs) 0 0) k ≡ false
+  due : (k : ℕ) → k ≤ until → overdue (deadline (t .refi) (at .stamps .refs)) k ≡ false
   calm : SettledFrom t (at .stamps) settled
 
 abbrev Inv-loop : tie.InvT-loop
@@ -39,10 +39,10 @@ abbrev μ-loop : tie.MeasureT-loop
 -- where a turn starts
 module _ (l : tie.At-loop Inv-loop μ-loop) where
   abbrev timing : Timing
-  timing = l .before .before .before .before .before .before .before .args .timing
+  timing = l .before .before .before .before .before .before .before .before .args .timing
 
   abbrev bytes : List ℕ
-  bytes = now (l .before .before .before .before .before .before .before .args .bytes)
+  bytes = now (l .before .before .before .before .before .before .before .before .args .bytes)
 
   abbrev place : Place
   place = record { clock = l .loop .clock; first = l .loop .first; stamps = l .loop .stamps }
@@ -63,11 +63,11 @@ module _ (c : tie.After-word-at Inv-loop μ-loop) where
 
 -- rules 1 to 3 there, and rules 6, 9 and 10
 early : (c : tie.Else1 Inv-loop μ-loop) → let p = place (from (c .before)) in
-    earlyBreach (timing (from (c .before)) .refi) (getD (p .stamps .refs) 0 0) (p .clock) (c .before .word-at .result) ≡ 0
+    earlyBreach (deadline (timing (from (c .before)) .refi) (p .stamps .refs)) (p .clock) (c .before .word-at .result) ≡ 0
 early c =
     let l = from (c .before) in
     let p = place l in
-    early-by (timing l .refi) (getD (p .stamps .refs) 0 0) (p .clock) (c .before .word-at .result) (l .before .before .due .result)
+    early-by (deadline (timing l .refi) (p .stamps .refs)) (p .clock) (c .before .word-at .result) (l .before .before .due .result)
     (not-false _ (c .if1 .left)) (l .loop .inv .due)
 
 calm : (c : tie.Else3 Inv-loop μ-loop) → let l = from (c .before .before .before .before) in
@@ -106,8 +106,8 @@ access c =
 refi-requires : tie.Need-refi-requires Inv-loop μ-loop
 refi-requires c κs = search needs
 
-element-copy-out-due : tie.Need-element-copy-out-due Inv-loop μ-loop
-element-copy-out-due c = search needs
+deadline-requires : tie.Need-deadline-requires Inv-loop μ-loop
+deadline-requires c κs = search needs
 
 due-requires : tie.Need-due-requires Inv-loop μ-loop
 due-requires c κs = search needs
@@ -120,7 +120,7 @@ loop-holds c =
     record {
       fits = search needs;
       passed = none;
-      due = rw (c .before .before .before .refi .ensures) at (c .before .due .ensures);
+      due = rw (c .before .before .deadline .ensures, c .before .before .before .refi .ensures) at (c .before .due .ensures);
       calm = c .settled-from .ensures;
     }
 
@@ -232,7 +232,7 @@ skimmed-spec =
     Inv-loop
     μ-loop
     refi-requires
-    element-copy-out-due
+    deadline-requires
     due-requires
     settled-from-requires
     loop-holds

@@ -3,9 +3,6 @@ use borrow.Author.Needs.{needs}
 use Rattle.rules.proofs.rules.early_breach.Statement.{statement}
 use Rattle.rules.proofs.rules.early_breach.Tie as tie
 
-add-overdue : tie.Need-add-overdue
-add-overdue c = search needs
-
 high-requires : tie.Need-high-requires
 high-requires c κs = search needs
 
@@ -16,4 +13,4 @@ returns : tie.Need-returns
 returns c = rw (c .lowest-early .ensures, c .before .high .ensures)
 
 pub early-breach-spec : {M : Type 1} → statement M
-early-breach-spec = tie.close (tie.spec add-overdue high-requires lowest-early-requires returns)
+early-breach-spec = tie.close (tie.spec high-requires lowest-early-requires returns)

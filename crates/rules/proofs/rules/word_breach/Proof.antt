@@ -2,35 +2,34 @@
 use borrow.Author.Tests.{eq-eqb, ne-eqb}
 use mathlib.Core.Path.{_≡_, sym, _∙_, ap}
 use mathlib.Core.Bool.{true, false, not}
-use lib.ListN.{getD}
 use lib.Dec.{eqb}
 use Rattle.command.specs.Pairs.{opens}
-use Rattle.rules.specs.Breaches.{earlyBreach}
+use Rattle.rules.specs.Breaches.{deadline, earlyBreach}
 use borrow.Author.Needs.{needs}
 use Rattle.rules.proofs.rules.word_breach.Statement.{statement}
 use Rattle.rules.proofs.rules.word_breach.Tie as tie
 
 -- the number of rules 1 to 3
-early : (c : tie.After-early-breach) → let a = c .before .before .before .args in
-    c .early-breach .result ≡ earlyBreach (a .timing .refi) (getD (a .stamps .refs) 0 0) (a .clock) (a .word)
-early c = rw (c .before .refi .ensures) at (c .early-breach .ensures)
+early : (c : tie.After-early-breach) → let a = c .before .before .before .before .args in
+    c .early-breach .result ≡ earlyBreach (deadline (a .timing .refi) (a .stamps .refs)) (a .clock) (a .word)
+early c = rw (c .before .deadline .ensures, c .before .before .refi .ensures) at (c .early-breach .ensures)
 
 -- what the two tests tell
-none-early : (c : tie.Else1) → let a = c .before .before .before .before .args in
-    eqb (earlyBreach (a .timing .refi) (getD (a .stamps .refs) 0 0) (a .clock) (a .word)) 0 ≡ true
+none-early : (c : tie.Else1) → let a = c .before .before .before .before .before .args in
+    eqb (earlyBreach (deadline (a .timing .refi) (a .stamps .refs)) (a .clock) (a .word)) 0 ≡ true
 none-early c = rw (← early (c .before)) (eq-eqb (c .before .early-breach .result) 0 (c .if1 .left))
 
-opened : (c : tie.Then2) → opens (c .before .before .before .before .before .before .args .first) ≡ true
+opened : (c : tie.Then2) → opens (c .before .before .before .before .before .before .before .args .first) ≡ true
 opened c = ap not (sym (c .before .high .ensures)) ∙ c .if2 .taken
 
-idle : (c : tie.Else2) → opens (c .before .before .before .before .before .before .args .first) ≡ false
+idle : (c : tie.Else2) → opens (c .before .before .before .before .before .before .before .args .first) ≡ false
 idle c = ap not (sym (c .before .high .ensures)) ∙ c .if2 .left
 
 refi-requires : tie.Need-refi-requires
 refi-requires c κs = search needs
 
-array-read-early-breach : tie.Need-array-read-early-breach
-array-read-early-breach c = search needs
+deadline-requires : tie.Need-deadline-requires
+deadline-requires c κs = search needs
 
 early-breach-requires : tie.Need-early-breach-requires
 early-breach-requires c κs = search needs
@@ -55,7 +54,7 @@ word-breach-spec =
     tie.close
     (tie.spec
     refi-requires
-    array-read-early-breach
+    deadline-requires
     early-breach-requires
     returns
     high-requires
