@@ -17,8 +17,8 @@ use Rattle.stamps.specs.Stamps.{nextFirst}
 use Rattle.rules.specs.Breaches.{near, deadline, overdue, bankStamp, earlyBreach, closingBreach}
 use Rattle.rules.specs.Verdict.{Judgement}
 use Rattle.stamps.specs.declared.Timestamps.{Timestamps}
-use Rattle.rules.proofs.ByKind.{at-lal}
-use Rattle.rules.proofs.Sums.{no-more}
+use Rattle.breaches.proofs.ByKind.{at-lal}
+use Rattle.breaches.proofs.Sums.{no-more}
 use Rattle.rules.proofs.Words.{run, run-passes}
 use Rattle.bytecheck.specs.Passed.{Passes, Passed, none, more}
 use Rattle.bytecheck.specs.Quick.{Settled, Clear}

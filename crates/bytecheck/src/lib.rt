@@ -4,6 +4,7 @@ mod quick;
 
 use basics::LIMIT;
 use basics::Refusal;
+use breaches::word_breach;
 use config::Config;
 use config::Timing;
 use config::TimingAnswer;
@@ -11,7 +12,6 @@ use place::Place;
 use protocol::Breach;
 use protocol::Verdict;
 use quick::skimmed;
-use rules::word_breach;
 ghost use mathlib.Core.Path.{_≡_};
 ghost use Prim.Native.Nat.{_≤_, _/_};
 ghost use lib.ListN.{length};

@@ -7,7 +7,7 @@ use command::pins::FN;
 use command::pins::PD;
 use command::pins::high;
 use config::Timing;
-use rules::deadline;
+use early::deadline;
 use stamps::DESL;
 use stamps::Timestamps;
 use stamps::next_first;

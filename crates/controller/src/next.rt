@@ -16,8 +16,8 @@ fn passes(timing: Timing, stamps: Timestamps, clock: u32, pair: Pair) -> bool
     requires { ⌜ clock < 16777216 ⌝ }
     ensures { λ r. ⌜ r ≡ passes timing stamps clock pair ⌝ }
 {
-    let first = rules::word_breach(timing, stamps, clock, DESL, pair.first);
-    let second = rules::word_breach(timing, stamps, clock + 1, pair.first, pair.second);
+    let first = breaches::word_breach(timing, stamps, clock, DESL, pair.first);
+    let second = breaches::word_breach(timing, stamps, clock + 1, pair.first, pair.second);
     (first == 0) & (second == 0)
 }
 

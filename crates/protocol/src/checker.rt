@@ -1,11 +1,11 @@
 // The checker (the paper's examiner): a state that takes one word after the other.
 use basics::LIMIT;
 use basics::Refusal;
+use breaches::word_breach;
 use config::Config;
 use config::Timing;
 use config::TimingAnswer;
 use consistency::clock_fits;
-use rules::word_breach;
 use stamps::DESL;
 use stamps::Timestamps;
 use stamps::next_first;

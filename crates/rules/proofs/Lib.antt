@@ -1,6 +1,4 @@
 -- The tests of timestamps are the published rules. Read Words and Kept last: they have a word, and a whole trace.
-pub mod Sums
-pub mod ByKind
 pub mod Closings
 pub mod Newest
 pub mod Summary

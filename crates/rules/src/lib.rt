@@ -1,5 +1,1 @@
-// The published rules, as tests of what is kept of the past.
-mod rules;
-
-pub use rules::deadline;
-pub use rules::word_breach;
+// The published rules, and the theorem that they are tests of a few timestamps; there is no code.

@@ -1,12 +1,12 @@
 // The whole check of a trace: one pass, and nothing tested inside it that the door has tested.
 use basics::LIMIT;
 use basics::Refusal;
+use breaches::word_breach;
 use config::Config;
 use config::Timing;
 use config::TimingAnswer;
 use protocol::Breach;
 use protocol::Verdict;
-use rules::word_breach;
 use stamps::DESL;
 use stamps::Timestamps;
 use stamps::next_first;
