@@ -31,14 +31,13 @@ pub struct History {
 impl History {
     /// Every part of every rule that the word breaks at this clock, lowest number first.
     pub fn broken(&self, sheet: &Sheet, word: u32) -> Vec<Broken> {
-        let overdue = |r| self.clock - r > sheet.d();
         let mut found = Vec::new();
         take(
             &mut found,
             [
                 (1, "high bit", word::stray_bit(word)),
                 (2, "PD low", !word::high(word, word::PD)),
-                (3, "D", self.last_ref().is_some_and(overdue)),
+                (3, "D", self.overdue(sheet)),
             ],
         );
         if let Some(first) = self.open {
@@ -60,8 +59,16 @@ impl History {
     }
 
     /// The clocks of all REF words, oldest first.
-    fn ref_words(&self) -> impl DoubleEndedIterator<Item = u32> + '_ {
+    pub fn ref_words(&self) -> impl DoubleEndedIterator<Item = u32> + '_ {
         ref_words(&self.pairs)
+    }
+
+    /// Rule 3: the m-th last REF word stands more than m × D before, m being the number of REF words
+    /// but at most eight. It is judged for that m alone.
+    fn overdue(&self, sheet: &Sheet) -> bool {
+        let from_the_last = self.ref_words().rev().zip(1..);
+        let mth_last = from_the_last.take(8).last();
+        mth_last.is_some_and(|(r, m)| self.clock - r > m * sheet.d())
     }
 }
 

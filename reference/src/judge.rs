@@ -27,17 +27,18 @@ pub fn judge<P: Past>(sheet: &Sheet, words: &[u32]) -> Verdict {
     Verdict::Accepted
 }
 
-/// All that is broken at the first breaching clock, for a tale of which breaches were met together.
-pub fn first_broken(sheet: &Sheet, words: &[u32]) -> Option<(u32, Vec<Broken>)> {
-    let mut past = History::fresh();
+/// The words up to the first breaching clock and all that is broken there, or all words and nothing:
+/// for a tale of the edges and breaches that were met.
+pub fn first_broken(sheet: &Sheet, words: &[u32]) -> (History, Vec<Broken>) {
+    let mut kept = History::fresh();
     for &word in words {
-        let broken = past.broken(sheet, word);
+        let broken = kept.broken(sheet, word);
         if !broken.is_empty() {
-            return Some((past.clock, broken));
+            return (kept, broken);
         }
-        past.push(word);
+        kept.push(word);
     }
-    None
+    (kept, Vec::new())
 }
 
 /// The whole check: the sheet's refusals, then 24 for too long a trace, then the verdict.

@@ -147,7 +147,7 @@ impl Sheet {
         self.cl - 1
     }
 
-    /// D, the greatest number of clocks from one REF word to the next.
+    /// D, the greatest number of clocks from one REF word to the next, on the average over eight.
     pub fn d(&self) -> u32 {
         3_900_000 / self.period
     }

@@ -73,6 +73,24 @@ impl Summary {
         self.at(event).is_some_and(|t| self.clock - t < spacing)
     }
 
+    /// The clocks of the REF words kept, the last one first; 0 is none.
+    pub fn refs(&self) -> &[u32] {
+        &self.events[REFS..]
+    }
+
+    /// The furthest REF word kept and its place, 1 being that of the last: the m-th last and m, if
+    /// words led here. The paper does not speak of a state that was put with a 0 before a REF word
+    /// further back; the furthest place that is not 0 counts there too.
+    pub fn furthest_ref(&self) -> Option<(u32, u32)> {
+        let place = self.refs().iter().rposition(|&clock| clock != 0)?;
+        Some((self.refs()[place], place as u32 + 1))
+    }
+
+    /// The last clock that rule 3 allows; none where it allows all.
+    pub fn refresh_limit(&self, sheet: &Sheet) -> Option<u32> {
+        self.furthest_ref().map(|(r, m)| r + m * sheet.d())
+    }
+
     /// The lowest of rules 4 to 12 that a closing word breaks.
     fn closing(&self, sheet: &Sheet, first: u32, second: u32) -> Option<u32> {
         let kind = pair::kind(first, second);
@@ -167,7 +185,8 @@ impl Past for Summary {
         if !word::high(word, word::PD) {
             return Some(2);
         }
-        if self.last_ref().is_some_and(|r| self.clock - r > sheet.d()) {
+        let limit = self.refresh_limit(sheet);
+        if limit.is_some_and(|limit| self.clock > limit) {
             return Some(3);
         }
         let first = self.open()?;

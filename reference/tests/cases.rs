@@ -111,12 +111,62 @@ fn case_d_write_then_read() {
 
 #[test]
 fn case_e_refresh_in_time() {
-    assert_eq!(
-        verdict(&trace(&at(812, Operation::Refresh), 814)),
-        Verdict::Accepted
-    );
-    assert_eq!(verdict(&trace(&[], 814)), Verdict::Accepted);
-    assert_eq!(verdict(&trace(&[], 815)), breach(814, 3));
+    let with_ref_at = |clock: u32, length| trace(&at(clock - 1, Operation::Refresh), length);
+    assert_eq!(verdict(&with_ref_at(813, 814)), Verdict::Accepted);
+    assert_eq!(verdict(&trace(&[], 1576)), Verdict::Accepted);
+    assert_eq!(verdict(&trace(&[], 1577)), breach(1576, 3));
+    // A REF word at the last clock counts for the next one, and one clock later does not help itself.
+    assert_eq!(verdict(&with_ref_at(1575, 2356)), Verdict::Accepted);
+    assert_eq!(verdict(&with_ref_at(1575, 2357)), breach(2356, 3));
+    assert_eq!(verdict(&with_ref_at(1576, 1577)), breach(1576, 3));
+}
+
+/// A trace without modes whose REF words stand at these clocks.
+fn refreshes(refs: &[u32], length: u32) -> Vec<u32> {
+    let mut trace = vec![DESL; length as usize];
+    for &clock in refs {
+        for (clock, word) in at(clock - 1, Operation::Refresh) {
+            trace[clock as usize] = word;
+        }
+    }
+    trace
+}
+
+/// REF words as close as REFC and W allow, from 15 on.
+const BUNCH: [u32; 10] = [15, 33, 51, 69, 87, 105, 123, 141, 656, 674];
+
+/// The last clock allowed after so many of these, D being 780: up to eight times D after the first of
+/// them, then after the second and the third.
+#[test]
+fn both_edges_of_each_m() {
+    let last = [795, 1575, 2355, 3135, 3915, 4695, 5475, 6255, 6273, 6291];
+    for (count, last) in (1..).zip(last) {
+        let refs = &BUNCH[..count];
+        let allowed = refreshes(refs, last + 1);
+        assert_eq!(verdict(&allowed), Verdict::Accepted, "{count} REF words");
+        let late = refreshes(refs, last + 2);
+        assert_eq!(verdict(&late), breach(last + 1, 3), "{count} REF words");
+        let with_ref = refreshes(&[refs, &[last]].concat(), last + 1);
+        assert_eq!(verdict(&with_ref), Verdict::Accepted, "{count} REF words");
+        let with_late_ref = refreshes(&[refs, &[last + 1]].concat(), last + 2);
+        assert_eq!(
+            verdict(&with_late_ref),
+            breach(last + 1, 3),
+            "{count} REF words"
+        );
+    }
+}
+
+/// Rule 3 is for one m alone: with eight REF words before, neither a last one D and more before is a
+/// breach, nor does a last one right before help where the eighth last is too far.
+#[test]
+fn no_other_m_counts() {
+    let ninth = [&BUNCH[..8], &[6255]].concat();
+    assert_eq!(verdict(&refreshes(&ninth, 6274)), Verdict::Accepted);
+    assert_eq!(verdict(&refreshes(&ninth, 6275)), breach(6274, 3));
+    let tenth = [&ninth[..], &[6273]].concat();
+    assert_eq!(verdict(&refreshes(&tenth, 6292)), Verdict::Accepted);
+    assert_eq!(verdict(&refreshes(&tenth, 6293)), breach(6292, 3));
 }
 
 #[test]

@@ -143,6 +143,25 @@ fn sheets_of_controllers() {
     }
 }
 
+/// Rule 3 goes by the furthest REF word of a state, D being 780, whatever stands in nearer places.
+#[test]
+fn the_furthest_refresh_decides() {
+    for m in 1..=8 {
+        for last in [0, 9_999] {
+            let mut numbers = checker(10_000, DESL);
+            numbers[EVENT + 13] = last;
+            numbers[EVENT + 12 + m] = 10_000 - 780 * m as u32;
+            assert_eq!(step(&numbers), Step::Pass, "m = {m}");
+            numbers[CLOCK] = 10_001;
+            let late = Step::Breach {
+                clock: 10_001,
+                number: 3,
+            };
+            assert_eq!(step(&numbers), late, "m = {m}");
+        }
+    }
+}
+
 /// A request that leaves: the others move up, their last place is vacant, those behind stay.
 #[test]
 fn places_of_the_queue() {

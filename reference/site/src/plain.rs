@@ -168,7 +168,7 @@ impl<'a> Checker<'a> {
         0
     }
 
-    /// A refresh at u.
+    /// A refresh at u. What rule 3 allows changes here alone.
     #[inline(never)]
     fn refresh(&mut self, u: u32) -> u32 {
         if u < self.after_mode {
@@ -187,10 +187,16 @@ impl<'a> Checker<'a> {
         }
         *eighth = k;
         self.refs += 1;
-        self.last = k + self.d;
+        self.last = self.refresh_limit();
         self.after_refresh = u + self.sheet.refc;
         self.make_ready();
         0
+    }
+
+    /// The m-th last REF word and m × D, m being the number of REF words but at most eight.
+    fn refresh_limit(&self) -> u32 {
+        let m = self.refs.min(8);
+        self.ref_words[(self.refs - m) % 8] + m as u32 * self.d
     }
 
     /// Rule 6, once all that it asks for stands.

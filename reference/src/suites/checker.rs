@@ -10,6 +10,9 @@ use crate::sheet::Sheet;
 use crate::summary::Summary;
 use crate::word::{DESL, PD};
 
+/// The longest trace whose calls go into one script, which has its words four times, and its steps.
+const IN_ONE_SCRIPT: usize = 3_000;
+
 /// What this suite must meet.
 pub fn promised() -> Vec<String> {
     let refusals = ["refused 20", "refused 21", "refused 22", "refused 33"];
@@ -64,13 +67,10 @@ fn judged(
     words: &[u32],
 ) {
     near::count_broken(coverage, sheet, words);
-    let mut calls = vec![pool::config(sheet)];
-    calls.extend(steps(words));
-    calls.push(Call::Step {
-        count: 2,
-        word: DESL,
-    });
-    calls.push(Call::Step { count: 0, word: 0 });
+    if words.len() > IN_ONE_SCRIPT {
+        return judged_apart(packer, sheet, words);
+    }
+    let mut calls = stepped(sheet, words);
     calls.push(Call::Check(words.to_vec()));
     calls.push(Call::Count(words.to_vec()));
     calls.push(Call::Walk(words.to_vec()));
@@ -80,6 +80,26 @@ fn judged(
     }
     calls.push(Call::Walk(beginning.to_vec()));
     packer.group(&calls);
+}
+
+/// Has a long trace judged in these three ways, each in a group of its own.
+fn judged_apart(packer: &mut Packer, sheet: &Sheet, words: &[u32]) {
+    packer.group(&stepped(sheet, words));
+    for call in [Call::Check, Call::Walk] {
+        packer.group(&[pool::config(sheet), call(words.to_vec())]);
+    }
+}
+
+/// A trace stepped over on a sheet, and what the checker says after it.
+fn stepped(sheet: &Sheet, words: &[u32]) -> Vec<Call> {
+    let mut calls = vec![pool::config(sheet)];
+    calls.extend(steps(words));
+    calls.push(Call::Step {
+        count: 2,
+        word: DESL,
+    });
+    calls.push(Call::Step { count: 0, word: 0 });
+    calls
 }
 
 /// Whether a trace ends with a pair open.

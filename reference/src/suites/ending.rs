@@ -3,26 +3,40 @@
 use super::trace::{part_name, some_kind, Trace};
 use crate::coverage::Coverage;
 use crate::pair::Kind;
-use crate::past::Past;
 use crate::random::Random;
 use crate::word::{a, BA0, BA1, BA2, CS, DESL, PD};
 
-/// The number of ways.
-pub const WAYS: u32 = 11;
+/// The ways are taken in turn. Three of them wait until a refresh is due and make long traces; each of
+/// the nine others comes three times.
+const TURNS: u32 = 30;
 
-/// Ends a trace in one of the ways.
-pub fn end(way: u32, trace: &mut Trace, random: &Random, coverage: &mut Coverage) {
+/// The most refreshes in a bunch.
+const BUNCH: u32 = 10;
+
+/// Ends a trace in the way whose turn it is.
+pub fn end(turn: u32, trace: &mut Trace, random: &Random, coverage: &mut Coverage) {
+    match turn % TURNS {
+        0 => refresh_at_the_last_clock(trace, random),
+        1 => overdue_pair(trace, random, coverage),
+        2 => {
+            let count = turn / TURNS % BUNCH + 1;
+            pause_after_a_bunch(trace, random, count as usize, coverage);
+        }
+        other => end_soon(other % 9, trace, random, coverage),
+    }
+}
+
+/// Ends a trace in one of the ways that take no long wait.
+fn end_soon(way: u32, trace: &mut Trace, random: &Random, coverage: &mut Coverage) {
     match way {
         0 => trace.idle_until(trace.clock() + random.below(30)),
         1 => one_clock_early(trace, random, coverage),
         2 => early_and_wrong(trace, random),
-        3 => refresh_at_the_last_clock(trace, random, coverage),
-        4 => overdue_pair(trace, random, coverage),
-        5 => nine_refreshes(trace, random, coverage),
-        6 => damage(trace, random),
-        7 => open_pair(trace, random),
-        8 => older_pair_binds(trace, random, coverage),
-        9 => access_soon_after(trace, random, coverage),
+        3 => nine_refreshes(trace, random, coverage),
+        4 => damage(trace, random),
+        5 => open_pair(trace, random),
+        6 => older_pair_binds(trace, random, coverage),
+        7 => access_soon_after(trace, random, coverage),
         _ => access_after_a_wait(trace, random),
     }
 }
@@ -76,32 +90,66 @@ fn spoil(random: &Random, kind: Kind, (mut first, mut second): (u32, u32)) -> (u
     (first, second)
 }
 
-/// A REF word at exactly D after the last, or one clock later, or none at all.
-fn refresh_at_the_last_clock(trace: &mut Trace, random: &Random, coverage: &mut Coverage) {
-    let Some(last) = trace.past.last_ref() else {
+/// A REF word at the last clock that rule 3 allows and a pause, or one clock later, or none at all.
+fn refresh_at_the_last_clock(trace: &mut Trace, random: &Random) {
+    let Some(limit) = trace.refresh_limit() else {
         return trace.idle_until(trace.clock() + 1000);
     };
-    let limit = last + trace.sheet.d();
-    let choice = random.below(3);
-    trace.idle_until(limit - 1 + choice);
-    let words = trace.words_of(random, Kind::Refresh, 0);
-    if choice == 0 && trace.broken_by(words).is_empty() {
-        coverage.meet("kept at its edge: 3 D");
-        trace.pair(words);
-        return trace.idle_until(limit + random.below(3) * trace.sheet.d());
+    let late = random.below(3);
+    refresh_by(trace, random, limit + late);
+    if late == 0 && random.once_in(2) {
+        idle_about_the_limit(trace, random);
     }
-    if choice == 1 {
-        by_one_clock(trace, words, coverage);
-    }
+}
+
+/// A refresh with its REF word at a clock, unless that is past.
+fn refresh_by(trace: &mut Trace, random: &Random, clock: u32) {
+    trace.idle_until(clock - 1);
+    let words = trace.words_of(random, Kind::Refresh, random.below(8));
     trace.pair(words);
 }
 
-/// A pair whose closing word is the first that comes too late for the refresh, other pairs before.
+/// DESL up to the last clock that rule 3 allows, or not quite, or up to the next.
+fn idle_about_the_limit(trace: &mut Trace, random: &Random) {
+    if let Some(limit) = trace.refresh_limit() {
+        trace.idle_until(limit + random.pick(&[0, 1, 2, 2]));
+    }
+}
+
+/// Refreshes as close as allowed until there are so many, and a pause. At times each of a few more
+/// comes at the last clock that rule 3 allows, which after the eighth is as soon as old ones came.
+fn pause_after_a_bunch(trace: &mut Trace, random: &Random, count: usize, coverage: &mut Coverage) {
+    // A start-up has two of its own, so mostly the bunch is all there is.
+    if count < 2 || !random.once_in(4) {
+        *trace = Trace::new(trace.sheet);
+    }
+    bunch(trace, random, count, coverage);
+    let further = match trace.refs().len() < 8 {
+        true => random.pick(&[0, 0, 0, 1]),
+        false => random.pick(&[0, 0, 1, 3]),
+    };
+    for _ in 0..further {
+        if let Some(limit) = trace.refresh_limit() {
+            refresh_by(trace, random, limit);
+        }
+    }
+    idle_about_the_limit(trace, random);
+}
+
+/// Refreshes as close as allowed until there are so many.
+fn bunch(trace: &mut Trace, random: &Random, count: usize, coverage: &mut Coverage) {
+    while trace.refs().len() < count && trace.put_kind(random, Kind::Refresh, coverage) {}
+}
+
+/// A pair whose closing word is the first that comes too late for the refresh, other pairs before, and
+/// seldom a bunch of refreshes before all.
 fn overdue_pair(trace: &mut Trace, random: &Random, coverage: &mut Coverage) {
-    let Some(last) = trace.past.last_ref() else {
+    if random.once_in(8) {
+        bunch(trace, random, 8, coverage);
+    }
+    let Some(limit) = trace.refresh_limit() else {
         return;
     };
-    let limit = last + trace.sheet.d();
     trace.idle_until(limit - random.between(3, 14));
     for _ in 0..random.below(4) {
         let kind = some_kind(random);

@@ -60,9 +60,9 @@ impl Load {
         self.word(words.1);
     }
 
-    /// The clock of the last REF word and D after.
+    /// The last clock that rule 3 allows without another refresh.
     fn due(&self) -> u32 {
-        self.past.last_ref().unwrap() + self.sheet.d()
+        self.past.refresh_limit(&self.sheet).unwrap()
     }
 
     fn refresh(&mut self) {

@@ -23,7 +23,7 @@ pub fn dense_words(random: &Random, sheet: &Sheet, length: usize) -> Vec<u32> {
     let mut past = Summary::fresh();
     words.iter().for_each(|&word| past.push(word));
     while words.len() < length {
-        let due = past.last_ref().unwrap() + sheet.d() - 20;
+        let due = past.refresh_limit(sheet).unwrap() - 20;
         let kind = match past.clock() > due {
             true => Kind::Refresh,
             false => random.pick(&[Kind::Read, Kind::Write]),

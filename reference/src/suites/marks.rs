@@ -34,6 +34,7 @@ pub fn promised() -> Vec<String> {
             promised.push(format!("broken by one clock: {part}"));
         }
     }
+    promised.extend(near::promised_refresh_edges());
     promised
 }
 
@@ -96,8 +97,10 @@ fn around_the_longest(random: &Random, send: &mut dyn FnMut(&[u8])) {
 
 /// Traces near the edges of the rules, words at random, and long traces with a little damage.
 fn traces(random: &Random, scale: u32, coverage: &mut Coverage, send: &mut dyn FnMut(&[u8])) {
-    for way in 0..2_200 * scale {
-        send(&bytes(&near::near_words(random, coverage, SHEET_E, way)));
+    for way in 0..3_000 * scale {
+        let words = near::near_words(random, coverage, SHEET_E, way);
+        near::count_broken(coverage, &SHEET_E, &words);
+        send(&bytes(&words));
     }
     for _ in 0..100 * scale {
         send(&bytes(&near::random_words(random)));

@@ -1,9 +1,10 @@
 //! Traces near the edges of the rules, and what they meet of them: for every suite that judges traces.
 
-use super::ending::{end, WAYS};
+use super::ending::end;
 use super::pool;
-use super::trace::{part_name, some_kind, Trace};
+use super::trace::{part_name, refresh_limit, some_kind, Trace};
 use crate::coverage::Coverage;
+use crate::history::History;
 use crate::judge::first_broken;
 use crate::random::Random;
 use crate::sheet::Sheet;
@@ -51,9 +52,31 @@ const OTHER_PARTS: [&str; 7] = [
     "6 no second REF",
 ];
 
+/// The most REF words before an edge of rule 3 that are counted by their number.
+const REFS_NAMED: usize = 8;
+
+/// The edge of rule 3 after so many REF words. Up to eight, that is m.
+fn refresh_edge(refs: usize) -> String {
+    match refs <= REFS_NAMED {
+        true => format!("3 with m = {refs}"),
+        false => "3 with more than eight REF words".to_string(),
+    }
+}
+
+/// The edges of rule 3, each kept and broken.
+pub fn promised_refresh_edges() -> Vec<String> {
+    let mut promised = Vec::new();
+    for refs in 1..=REFS_NAMED + 1 {
+        let edge = refresh_edge(refs);
+        promised.push(format!("kept at its edge: {edge}"));
+        promised.push(format!("broken by one clock: {edge}"));
+    }
+    promised
+}
+
 /// What the traces of one round must meet together.
 pub fn promised() -> Vec<String> {
-    let mut promised = Vec::new();
+    let mut promised = promised_refresh_edges();
     for (low, highs) in TOGETHER {
         promised.extend(
             highs
@@ -79,7 +102,7 @@ pub fn round(
     judged: &mut dyn FnMut(&mut Coverage, &Sheet, &[u32]),
 ) {
     for (i, sheet) in pool::corners().into_iter().enumerate() {
-        for way in [number + i as u32, random.below(WAYS)] {
+        for way in [number + i as u32, random.bits()] {
             let words = near_words(random, coverage, sheet, way);
             judged(coverage, &sheet, &words);
         }
@@ -102,18 +125,22 @@ pub fn near_words(random: &Random, coverage: &mut Coverage, sheet: Sheet, way: u
             trace.idle_until(trace.clock() + random.below(6));
         }
     }
-    end(way % WAYS, &mut trace, random, coverage);
+    end(way, &mut trace, random, coverage);
     if random.once_in(3) {
         trace.idle_until(trace.clock() + 3);
     }
     trace.words
 }
 
-/// Counts what a trace breaks at its first breaching clock: one part alone, or rules together.
+/// Counts the edges of rule 3 that a trace keeps, and what it breaks at its first breaching clock:
+/// one part alone, or rules together.
 pub fn count_broken(coverage: &mut Coverage, sheet: &Sheet, words: &[u32]) {
-    let Some((_, broken)) = first_broken(sheet, words) else {
-        return;
-    };
+    let (kept, broken) = first_broken(sheet, words);
+    count_refresh_edges(coverage, sheet, &kept);
+    if broken.first().is_some_and(|b| b.number == 3) {
+        // Every REF word allows later clocks, so the first that is too late is so by one.
+        meet_refresh_edge(coverage, "broken by one clock", kept.ref_words().count());
+    }
     if let [only] = broken[..] {
         coverage.meet(&format!("broken alone: {}", part_name(&only)));
     }
@@ -124,6 +151,24 @@ pub fn count_broken(coverage: &mut Coverage, sheet: &Sheet, words: &[u32]) {
             coverage.meet(&format!("together: {low} and {high}"));
         }
     }
+}
+
+/// Counts the words kept that stand at the last clock that rule 3 allows.
+fn count_refresh_edges(coverage: &mut Coverage, sheet: &Sheet, kept: &History) {
+    let refs: Vec<u32> = kept.ref_words().collect();
+    for count in 1..=refs.len() {
+        // The last word with so many REF words before it: the next REF word, or the last of all.
+        let last = refs.get(count).copied().unwrap_or(kept.clock - 1);
+        if refresh_limit(sheet, &refs[..count]) == Some(last) {
+            meet_refresh_edge(coverage, "kept at its edge", count);
+        }
+    }
+}
+
+/// Counts an edge of rule 3 after so many REF words, and that of the rule as such.
+fn meet_refresh_edge(coverage: &mut Coverage, what: &str, refs: usize) {
+    coverage.meet(&format!("{what}: 3 D"));
+    coverage.meet(&format!("{what}: {}", refresh_edge(refs)));
 }
 
 /// A short trace of words at random, some with few pins in play.

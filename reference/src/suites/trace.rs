@@ -16,6 +16,13 @@ pub struct Trace {
     pub words: Vec<u32>,
 }
 
+/// The last clock that rule 3 allows after these REF words, oldest first; none without any.
+pub fn refresh_limit(sheet: &Sheet, refs: &[u32]) -> Option<u32> {
+    let m = refs.len().min(8);
+    let mth_last = refs.get(refs.len() - m)?;
+    Some(mth_last + m as u32 * sheet.d())
+}
+
 /// The name of a broken part of a rule.
 pub fn part_name(broken: &Broken) -> String {
     format!("{} {}", broken.number, broken.part)
@@ -34,6 +41,16 @@ impl Trace {
     /// The clock of the next word.
     pub fn clock(&self) -> u32 {
         self.past.clock
+    }
+
+    /// The clocks of the REF words so far, oldest first.
+    pub fn refs(&self) -> Vec<u32> {
+        self.past.ref_words().collect()
+    }
+
+    /// The last clock that rule 3 allows as things stand.
+    pub fn refresh_limit(&self) -> Option<u32> {
+        refresh_limit(&self.sheet, &self.refs())
     }
 
     /// Adds one word, whatever the rules say.

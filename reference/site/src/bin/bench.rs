@@ -45,7 +45,7 @@ fn compare(name: &str, words: Vec<u32>) {
 /// The plain checker answers as the reference does, or its speed would say nothing.
 fn plain_is_sound(random: &Random) {
     let mut coverage = Coverage::default();
-    for way in 0..5_500 {
+    for way in 0..6_000 {
         let sheet = pool::sheet(random);
         let trace = bytes(&near::near_words(random, &mut coverage, sheet, way));
         let wanted = site_number::<Both>(&sheet, &trace);

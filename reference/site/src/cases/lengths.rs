@@ -11,11 +11,15 @@ use reference::word::{CS, DESL};
 /// The greatest of the short lengths, in bytes.
 const SHORT_LENGTHS: usize = 70;
 
+/// The beginnings of a trace are taken up to so many words, and from so many before its end on.
+const FIRST: usize = 700;
+const LAST: usize = 40;
+
 pub fn cases(run: &mut Run, scale: u32) {
     for _ in 0..4 * scale {
         short_lengths(run);
     }
-    for round in 0..22 * scale {
+    for round in 0..30 * scale {
         beginnings(run, round);
     }
 }
@@ -41,14 +45,15 @@ fn short_lengths(run: &mut Run) {
     }
 }
 
-/// Every beginning of a trace: word by word, and byte by byte near its end.
+/// Every beginning of a trace, but those in the middle of a long one: word by word, and byte by byte
+/// near its end.
 fn beginnings(run: &mut Run, way: u32) {
     let sheet = pool::sheet(&run.random);
     let coverage = &mut run.coverage;
     let words = near::near_words(&run.random, coverage, sheet, way);
-    let words = &words[..words.len().min(700)];
-    let trace = bytes(words);
-    for count in 0..words.len() {
+    let trace = bytes(&words);
+    let last = words.len().saturating_sub(LAST).max(FIRST);
+    for count in (0..words.len().min(FIRST)).chain(last..words.len()) {
         run.short(&sheet, &trace[..4 * count]);
         if open(&words[..count]) && judge::<Summary>(&sheet, &words[..count]) == Verdict::Accepted {
             run.coverage.meet("accepted with a pair open at the end");

@@ -154,10 +154,11 @@ fn idle(run: &mut Run) {
     trace.compare(run, BYTES, 0, "accepted, pair open at the end");
 }
 
-/// An idle trace moved back by DESL words so that some REF word has the clock, or would have.
+/// An idle trace moved back by DESL words so that some REF word has the clock, or would have. They
+/// come again every 8 × D clocks, and the one taken is that which comes soon after another.
 fn with_refresh_at(idle: &[u32], clock: u32) -> Vec<u32> {
     let second_ref = idle[..201].iter().rposition(|w| w & CS == 0).unwrap() as u32;
-    let lead = ((clock - second_ref) % SHEET_E.d()) as usize;
+    let lead = ((clock - second_ref) % (8 * SHEET_E.d())) as usize;
     let mut words = vec![DESL; lead];
     words.extend(&idle[..WORDS - lead]);
     words

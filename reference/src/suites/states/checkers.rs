@@ -1,12 +1,14 @@
 //! Cases for the steps and walks of a checker.
 
 use super::forge::{
-    around, bare_checker, damage, delay_events, put_events, some_clock, spoil_sheet, CLOCKS,
+    around, bare_checker, damage, delay_events, put_events, put_refs, some_clock, spoil_sheet,
+    CLOCKS,
 };
 use super::run::CheckerRun;
 use crate::both::Both;
 use crate::checker::Checker;
 use crate::coverage::Coverage;
+use crate::judge::LONGEST;
 use crate::random::Random;
 use crate::script::{Call, Packer};
 use crate::sheet::Sheet;
@@ -15,8 +17,8 @@ use crate::suites::{checker, near, pool, trace};
 use crate::summary::EVENTS;
 use crate::word::{CS, DESL, FN, PD};
 
-/// The longest trace that a walk is made over.
-const WALKED: u32 = 1_100;
+/// The longest trace that a walk is made over; eight times D, and some clocks, are in it.
+const WALKED: u32 = 8_400;
 
 /// Every ground alone and its edges: each event at and around each clock, with and without an open
 /// pair; then the same beside a recorded breach, and on a sheet that is refused.
@@ -55,6 +57,27 @@ fn put_breach(random: &Random, numbers: &mut CheckerNumbers) {
     let clock = numbers[CLOCK];
     numbers[BREACH] = random.pick(&[0, clock, clock.wrapping_add(1), u32::MAX]);
     numbers[BREACH + 1] = random.pick(&[1, 12, 13, 23, u32::MAX, 0]);
+}
+
+/// REF words in the places up to each m, the clock at the last one that rule 3 allows and one past it;
+/// without and with a gap among the places, by themselves and among other events.
+pub fn refreshes(random: &Random, packer: &mut Packer, coverage: &mut Coverage) {
+    for m in 1..=8 {
+        for (late, gap) in [(0, false), (1, false), (0, m > 1), (1, m > 1)] {
+            for first in [DESL, DESL, DESL, PD, PD | FN] {
+                let sheet = pool::sheet(random);
+                let before = m * sheet.d() + late;
+                let early = before + random.between(1, 60);
+                let clock = random.pick(&[early, early, early, LONGEST - 1]);
+                let mut numbers = bare_checker(&sheet, clock, first);
+                if random.once_in(2) {
+                    put_events(random, &sheet, &mut numbers);
+                }
+                put_refs(random, &mut numbers, (m, before, gap));
+                trial(random, packer, coverage, vec![], &numbers);
+            }
+        }
+    }
 }
 
 /// A state at random, with events near the edges of the rules, seldom with a fault.

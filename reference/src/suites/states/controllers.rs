@@ -1,8 +1,8 @@
 //! Cases for the offers and ticks of a controller.
 
 use super::forge::{
-    around, bare_controller, damage, delay_events, put_events, put_place, some_clock, some_request,
-    spoil_sheet, CLOCKS,
+    around, bare_controller, damage, delay_events, put_events, put_modes, put_place, put_refs,
+    some_clock, some_request, spoil_sheet, CLOCKS,
 };
 use super::run::{ControllerRun, Form};
 use crate::both::Both;
@@ -107,6 +107,26 @@ fn beside(
         _ => spoil_sheet(random, &mut numbers),
     }
     trial(random, packer, coverage, vec![], &numbers);
+}
+
+/// REF words in the places up to each m, so that rule 3 allows a pair for the last time, or allows only
+/// its first word, or not even that; without and with a gap among the places.
+pub fn refreshes(random: &Random, packer: &mut Packer, coverage: &mut Coverage) {
+    for m in 1..=8 {
+        for late in 0..3 {
+            for gap in [false, m > 1] {
+                let sheet = pool::sheet(random);
+                let before = m * sheet.d() + late - 1;
+                let clock = before + random.pick(&[200, 1_000_000]) + random.below(200);
+                let opened = random.pick(&[0, 0, 0, 0, 0, 3]);
+                let count = random.pick(&[1, 3, 16]);
+                let mut numbers = bare_controller(random, &sheet, (clock, opened, count));
+                put_modes(&mut numbers);
+                put_refs(random, &mut numbers, (m, before, gap));
+                trial(random, packer, coverage, vec![], &numbers);
+            }
+        }
+    }
 }
 
 /// A state at random, with events near the edges of the rules, seldom with a fault.

@@ -7,6 +7,10 @@ use crate::sheet::Sheet;
 use crate::state::{CheckerNumbers, ControllerNumbers, CLOCK, COUNT, EVENT, OPEN, PLACE};
 use crate::suites::pool;
 use crate::summary::EVENTS;
+use std::ops::Range;
+
+/// Where the REF words of a state are, the last one first.
+const REFS: Range<usize> = EVENT + 13..EVENT + EVENTS;
 
 /// Clocks on either side of each edge.
 pub const CLOCKS: [u32; 8] = [0, 1, 2, 40, LONGEST - 1, LONGEST, LONGEST + 1, u32::MAX];
@@ -98,11 +102,35 @@ fn some_event(random: &Random, sheet: &Sheet, clock: u32) -> u32 {
 }
 
 /// Puts the modes and the last two refreshes so that a state with a late enough clock is ready for
-/// reads and writes, at times with the next refresh due or overdue.
+/// reads and writes, at times with the next refresh due.
 fn put_start_up(random: &Random, sheet: &Sheet, numbers: &mut [u32]) {
+    put_modes(numbers);
     let refresh = random.pick(&[40, 40, sheet.d(), sheet.d() + 1]);
-    for (event, before) in [(0, 203), (1, 202), (13, refresh), (14, refresh + 70)] {
+    for (event, before) in [(13, refresh), (14, refresh + 70)] {
         numbers[EVENT + event] = numbers[CLOCK].saturating_sub(before);
+    }
+}
+
+/// Puts the modes of a start-up.
+pub fn put_modes(numbers: &mut [u32]) {
+    for (event, before) in [(0, 203), (1, 202)] {
+        numbers[EVENT + event] = numbers[CLOCK].saturating_sub(before);
+    }
+}
+
+/// Puts REF words into the first m places: the furthest so many clocks before that of the state, the
+/// others between in their order, of which one is 0 if there is to be a gap.
+pub fn put_refs(random: &Random, numbers: &mut [u32], (m, before, gap): (u32, u32, bool)) {
+    let clock = numbers[CLOCK];
+    let furthest = clock - before;
+    let refs = &mut numbers[REFS];
+    refs.fill_with(|| random.between(furthest, clock - 1));
+    refs.sort_by(|a, b| b.cmp(a));
+    let (kept, never) = refs.split_at_mut(m as usize);
+    never.fill(0);
+    kept[m as usize - 1] = furthest;
+    if gap {
+        kept[random.below(m - 1) as usize] = 0;
     }
 }
 
@@ -115,9 +143,22 @@ pub fn put_events(random: &Random, sheet: &Sheet, numbers: &mut [u32]) {
     if random.once_in(2) {
         put_start_up(random, sheet, numbers);
     }
-    // Mostly in order, as refreshes are.
+    // Mostly in order, as refreshes are, and none overdue, which would hide all later breaches.
     if !random.once_in(4) {
-        numbers[EVENT + 13..EVENT + EVENTS].sort_by(|a, b| b.cmp(a));
+        numbers[REFS].sort_by(|a, b| b.cmp(a));
+    }
+    if !random.once_in(4) {
+        put_in_time(sheet, numbers);
+    }
+}
+
+/// Moves the REF words of a state that stand further back than rule 3 allows.
+fn put_in_time(sheet: &Sheet, numbers: &mut [u32]) {
+    let clock = numbers[CLOCK];
+    for (event, m) in numbers[REFS].iter_mut().zip(1..) {
+        if *event != 0 {
+            *event = clock.saturating_sub(m * sheet.d()).max(*event);
+        }
     }
 }
 

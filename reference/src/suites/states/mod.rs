@@ -4,6 +4,7 @@
 mod checkers;
 mod controllers;
 mod forge;
+mod limit;
 mod meet;
 mod run;
 
@@ -24,6 +25,9 @@ pub fn promised() -> Vec<String> {
     }
     promised.extend(meet::promised_order("step", &["19", "23", "24"]));
     promised.extend(meet::promised_order("walk", &["19", "end", "23"]));
+    for call in ["step", "walk"] {
+        promised.extend(limit::promised_words(call));
+    }
     promised.push("walk: end ahead of 24".to_string());
     for call in ["offer", "lent offer"] {
         promised.extend(meet::promised_grounds(call, &controller_grounds()));
@@ -32,6 +36,7 @@ pub fn promised() -> Vec<String> {
     for call in ["tick", "lent tick"] {
         promised.extend(meet::promised_grounds(call, &controller_grounds()));
         promised.extend(meet::promised_order(call, &["19", "24"]));
+        promised.extend(limit::promised_pairs(call));
     }
     promised.extend(controllers::promised());
     promised.push("script refused".to_string());
@@ -86,6 +91,12 @@ pub fn cases(seed: u64, scale: u32, packer: &mut Packer, coverage: &mut Coverage
     let random = Random::new(seed);
     checkers::edges(&random, packer, coverage);
     controllers::edges(&random, packer, coverage);
+    for _ in 0..6 * scale {
+        checkers::refreshes(&random, packer, coverage);
+    }
+    for _ in 0..24 * scale {
+        controllers::refreshes(&random, packer, coverage);
+    }
     for _ in 0..5_000 * scale {
         checkers::forged(&random, packer, coverage);
         controllers::forged(&random, packer, coverage);

@@ -1,6 +1,7 @@
 //! A checker or a controller that was put into a state, and the calls made on it since. Each call is
 //! made here too, so that what stands at the next one can be counted.
 
+use super::limit::{about_limit, NOT_OPENED, OPENED};
 use super::meet::{meet, meet_latest, of_state};
 use crate::both::Both;
 use crate::checker::Checker;
@@ -69,6 +70,17 @@ impl<'a> CheckerRun<'a> {
         let stands = further.into_iter().filter(|(stands, _)| *stands);
         standing.extend(stands.map(|(_, answer)| answer.to_string()));
         meet(self.coverage, call, &grounds, &standing);
+        if standing.is_empty() {
+            self.count_limit(call);
+        }
+    }
+
+    /// Counts a clock about the last one that rule 3 allows.
+    fn count_limit(&mut self, call: &str) {
+        let about = about_limit(&self.checker.sheet, self.checker.past.summary());
+        if let Some(about) = about {
+            self.coverage.meet(&format!("{call}: {about}"));
+        }
     }
 
     /// Steps by a word.
@@ -134,8 +146,9 @@ impl<'a> ControllerRun<'a> {
         }
     }
 
-    /// Counts what stands at a call: the state's refusals, then those of the call itself.
-    fn count(&mut self, call: &str, further: &[(bool, &str)]) {
+    /// Counts what stands at a call: the state's refusals, then those of the call itself. True if
+    /// nothing does.
+    fn count(&mut self, call: &str, further: &[(bool, &str)]) -> bool {
         let (clock, grounds) = (self.controller.past.clock(), self.controller.grounds());
         let mut standing = of_state(&self.controller.sheet, &grounds);
         if standing.is_empty() {
@@ -145,6 +158,7 @@ impl<'a> ControllerRun<'a> {
         let stands = further.iter().filter(|(stands, _)| *stands);
         standing.extend(stands.map(|(_, answer)| answer.to_string()));
         meet(self.coverage, call, &grounds, &standing);
+        standing.is_empty()
     }
 
     /// Counts sixteen waiting, and waiting fields at their greatest.
@@ -202,12 +216,27 @@ impl<'a> ControllerRun<'a> {
         };
         for _ in 0..count {
             let last = self.controller.past.clock() == LONGEST;
-            self.count(call, &[(last, "24")]);
-            if self.controller.tick().is_err() {
+            if !self.count(call, &[(last, "24")]) {
                 break;
             }
+            self.tick_counted(call);
         }
         self.calls.extend([made, Call::ShowController]);
+    }
+
+    /// A tick that nothing refuses; counts whether it opens a pair about the limit of rule 3.
+    fn tick_counted(&mut self, call: &str) {
+        let idle = self.controller.opened.is_none();
+        let about = about_limit(&self.controller.sheet, self.controller.past.summary());
+        let given = self.controller.tick();
+        given.expect("a tick that nothing refuses");
+        let what = match self.controller.opened.is_some() {
+            true => OPENED,
+            false => NOT_OPENED,
+        };
+        if let Some(about) = about.filter(|_| idle) {
+            self.coverage.meet(&format!("{call}: {what} {about}"));
+        }
     }
 
     /// Sends the calls as a group.
