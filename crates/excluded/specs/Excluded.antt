@@ -21,7 +21,7 @@ use Rattle.words.specs.Words.{wordsOf}
 use Rattle.rules.specs.History.{nothing}
 use Rattle.rules.specs.Rules.{breachAt}
 use Rattle.rules.specs.Verdict.{Judgement, accepted, lead, judge, checkOf, checkBytesOf}
-use Rattle.model.specs.CheckerCases.{At, words, startUpPairs, readAt}
+use Rattle.model.specs.Traces.{At, words, startUpPairs, readAt, bank0Read}
 use Rattle.consistency.specs.Consistency.{clockFits}
 use Rattle.protocol.specs.Steps.{verdictOutcome, stepped, fresh, stepOf}
 use Rattle.protocol.specs.declared.checker.Breach.{Breach}
@@ -34,7 +34,6 @@ use Rattle.queue.specs.Queue.{vacant}
 use Rattle.controller.specs.Steps.{held, callOutcome, offered, ticked}
 use Rattle.controller.specs.declared.Controller.{Controller}
 use Rattle.controller.specs.declared.CallAnswer.{CallAnswer}
-use Rattle.model.specs.Cases.{bank0Read}
 use Rattle.model.specs.Runs.{Call, offer, tick, Accepted, Run, pairsOf, starts, latestStart}
 use Rattle.model.specs.Demand3.{putOut, taken, InOrder, Prompt}
 use Rattle.forms.specs.Excluded.{Never}

@@ -7,7 +7,7 @@ use Rattle.basics.proofs.Outcomes.{refused-value}
 use Rattle.controller.specs.declared.Controller.{Controller}
 use Rattle.controller.specs.declared.CallAnswer.{CallAnswer}
 use Rattle.controller.specs.declared.CallAnswer.the-variants.{Accepted}
-use Rattle.model.specs.Cases.{bank0Read}
+use Rattle.model.specs.Traces.{bank0Read}
 use Rattle.model.specs.Runs.{offer, tick}
 use Rattle.borrowed.specs.Promised.{OfferPromised, TickPromised}
 use Rattle.forms.specs.EitherForm.{byValue, borrowed}

@@ -7,7 +7,7 @@ use Rattle.controller.specs.Steps.{joined, tickOf}
 use Rattle.controller.specs.declared.Controller.{Controller}
 use Rattle.controller.specs.declared.CallAnswer.{CallAnswer}
 use Rattle.controller.specs.declared.CallAnswer.the-variants.{Accepted}
-use Rattle.model.specs.Cases.{bank0Read}
+use Rattle.model.specs.Traces.{bank0Read}
 use Rattle.model.specs.Runs.{Call, offer, tick}
 use Rattle.forms.specs.EitherForm.{Form, Promised}
 

@@ -5,21 +5,17 @@ use mathlib.Core.Path.{_≡_, refl}
 use mathlib.Core.Bool.{Bool, true, false, cond}
 use mathlib.Core.List.{List, [], _∷_, _++_}
 use lib.Dec.{eqb}
-use Rattle.command.specs.declared.operation.Request.{Request}
 use Rattle.config.specs.Configuration.{institute, derived}
 use Rattle.config.specs.declared.Timing.{Timing}
 use Rattle.command.specs.Pins.{level}
-use Rattle.model.specs.CheckerCases.{Row, row, agree, words, startUpPairs, readAt, checkerCases}
 use Rattle.model.specs.Laid.{Course, start, tick, queued}
+use Rattle.model.specs.Traces.{words, startUpPairs, readAt, bank0Read}
+use Rattle.cases.specs.CheckerCases.{Row, row, agree, checkerCases}
 
 -- the next words are these
 abbrev pub gives : Timing → Course → List ℕ → Bool
 gives t c [] = true
 gives t c (w ∷ ws) = let r = tick t c in cond (eqb (r .word) w) (gives t (r .after) ws) false
-
--- a read of bank 0, row and column 0
-abbrev pub bank0Read : Request
-bank0Read = record { write = false; bank = 0; row = 0; column = 0; lower = 0; upper = 0 }
 
 -- case a, then the figures of sheet E and cases b to h
 abbrev pub table : List Row

@@ -1,9 +1,8 @@
 -- The figures of sheet E, and cases b to h of the paper's section "Clocks on either edge, sheet E", as rows of one table; behind case e
 -- the edges of rule 3 for one REF word and for more than eight. Cases puts case a before them, and computes all.
-use Prim.Native.Nat.{ℕ, _+_, _-_, _*_}
+use Prim.Native.Nat.{ℕ, _+_, _*_}
 use mathlib.Core.Bool.{Bool, true, _&&_}
 use mathlib.Core.List.{List, [], _∷_, _++_}
-use lib.ListN.{replicate}
 use lib.Dec.{eqb}
 use Rattle.basics.specs.Outcome.{Outcome, value, refused}
 use Rattle.config.specs.Configuration.{institute, derived, timingOf}
@@ -13,53 +12,16 @@ use Rattle.command.specs.declared.operation.Operation.the-variants.{Access}
 use Rattle.command.specs.declared.operation.Pair.{Pair}
 use Rattle.rules.specs.Verdict.{Judgement, accepted, breach, checkOf}
 use Rattle.former.specs.Former.{formerJudge}
+use Rattle.model.specs.Traces.{At, words, startUpPairs, readAt, writeAt, modeAt, refreshAt, bank1}
 
--- a pair at a clock
-pub record At : Type 0 where
-  pub clock : ℕ
-  pub first : ℕ
-  pub second : ℕ
+-- behind the start-up, whose REF words are at 15 and 33, the refreshes up to the ninth, as soon as rules 10 and 12 allow: with REF words
+-- at 51, 69, 87, 105, 123, 141 and 656
+abbrev pub upToNine : List At
+upToNine = refreshAt 50 ∷ refreshAt 68 ∷ refreshAt 86 ∷ refreshAt 104 ∷ refreshAt 122 ∷ refreshAt 140 ∷ refreshAt 655 ∷ []
 
--- two words at a clock and the next
-abbrev pub pair : ℕ → ℕ → ℕ → At
-pair k f s = record { clock = k; first = f; second = s }
-
--- the words from a clock on: the pairs at their clocks, DESL in the gaps, and some DESL behind
-abbrev pub words : ℕ → List At → ℕ → List ℕ
-words k [] more = replicate more 0xC0000
-words k (p ∷ ps) more = replicate (p .clock - k) 0xC0000 ++ (p .first ∷ p .second ∷ words (p .clock + 2) ps more)
-
--- the start-up of case a (RULES 8.5)
-abbrev pub startUpPairs : List At
-startUpPairs = pair 0 0xA0000 0x84000 ∷ pair 7 0xA0000 0x80042 ∷ pair 14 0x80000 0x80000 ∷ pair 32 0x80000 0x80000 ∷ []
-
--- a read at clock k, row and column 0, of the bank whose pins are b
-abbrev pub readAt : ℕ → ℕ → At
-readAt k b = pair k (0xA0000 + b) 0xC0000
-
--- a write so, with four words in each lane
-abbrev pub writeAt : ℕ → ℕ → At
-writeAt k b = pair k (0x80000 + b) 0xD1000
-
--- a regular mode at clock k
-abbrev pub modeAt : ℕ → At
-modeAt k = pair k 0xA0000 0x80042
-
--- a refresh at clock k
-abbrev pub refreshAt : ℕ → At
-refreshAt k = pair k 0x80000 0x80000
-
--- refreshes behind those of the start-up, as soon as rules 10 and 12 allow: the REF words before them are at 15 and 33, and these at 51, 69,
--- 87, 105, 123, 141, 656 and 674
-abbrev pub nine : List At
-nine = refreshAt 50 ∷ refreshAt 68 ∷ refreshAt 86 ∷ refreshAt 104 ∷ refreshAt 122 ∷ refreshAt 140 ∷ refreshAt 655 ∷ []
-
-abbrev pub ten : List At
-ten = nine ++ (refreshAt 673 ∷ [])
-
--- the pins of bank 1
-abbrev pub bank1 : ℕ
-bank1 = 0x4000
+-- and up to the tenth, at 674
+abbrev pub upToTen : List At
+upToTen = upToNine ++ (refreshAt 673 ∷ [])
 
 -- an outcome as one number: 0 for accepted, the refusal's number, or the breach's clock and, in the last two digits, its number
 abbrev pub number : Outcome Judgement → ℕ
@@ -136,10 +98,10 @@ checkerCases =
     ∷ row (verdictOf (refreshAt 14 ∷ []) 780) 0
     ∷ row (verdictOf (refreshAt 14 ∷ []) 781) 79603
     -- nine and ten REF words, up to 8 × D after the eighth last, which is at 33 and at 51, and one clock more
-    ∷ row (verdictOn nine 5617) 0
-    ∷ row (verdictOn nine 5618) 627403
-    ∷ row (verdictOn ten 5617) 0
-    ∷ row (verdictOn ten 5618) 629203
+    ∷ row (verdictOn upToNine 5617) 0
+    ∷ row (verdictOn upToNine 5618) 627403
+    ∷ row (verdictOn upToTen 5617) 0
+    ∷ row (verdictOn upToTen 5618) 629203
     -- f (RULES 4.11): after a read a mode, CL + BL / 2 behind the LAL and one clock less
     ∷ row (verdictOn (readAt 201 0 ∷ modeAt 208 ∷ []) 0) 0
     ∷ row (verdictOn (readAt 201 0 ∷ modeAt 207 ∷ []) 0) 20811

@@ -1,0 +1,3 @@
+-- The paper's cases, and the edges of rule 3, as one table.
+pub mod CheckerCases
+pub mod Cases
