@@ -1,6 +1,5 @@
 -- By whether there was a REF word. Assumes nothing.
 use mathlib.Core.Bool.{not, and-false}
-use native.Mathlib.Omega.{arith}
 use borrow.Author.Tests.{le-ltb}
 use lib.Dec.{eqb}
 use Rattle.bytecheck.proofs.quick.due.Statement.{statement}
