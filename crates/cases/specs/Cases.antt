@@ -17,7 +17,7 @@ abbrev pub gives : Timing → Course → List ℕ → Bool
 gives t c [] = true
 gives t c (w ∷ ws) = let r = tick t c in cond (eqb (r .word) w) (gives t (r .after) ws) false
 
--- case a, then the figures of sheet E and cases b to h
+-- case a, then the rows of CheckerCases
 abbrev pub table : List Row
 table =
     -- a (RULES 8.5): a fresh controller that was offered this read gives the start-up, RDA at 201, and at every other clock C0000, at 200
@@ -25,6 +25,6 @@ table =
     row (level (gives (derived institute) (queued start bank0Read) (words 0 (startUpPairs ++ (readAt 201 0 ∷ [])) 1))) 1
     ∷ checkerCases
 
--- the table is as published
+-- every row is as it should be
 pub cases : agree table ≡ true
 cases = refl

@@ -58,21 +58,21 @@ abbrev pub refusal : {A : Type 0} → Outcome A → ℕ
 refusal (value a) = 0
 refusal (refused n) = n
 
--- what a case comes to, and what the paper says
+-- what a case comes to, and what it should come to by the papers
 pub record Row : Type 0 where
   pub found : ℕ
-  pub published : ℕ
+  pub expected : ℕ
 
--- a row with what is found and what is published
+-- a row with both
 abbrev pub row : ℕ → ℕ → Row
-row a b = record { found = a; published = b }
+row a b = record { found = a; expected = b }
 
 -- the second word of a written pair
 abbrev pub lalOf : Outcome Pair → ℕ
 lalOf (value p) = p .second
 lalOf (refused n) = 0
 
--- the figures of sheet E, and cases b to h
+-- the figures of sheet E, cases b to h, and behind e the edges of rule 3
 abbrev pub checkerCases : List Row
 checkerCases =
     -- the figures of sheet E (RULES 1.3)
@@ -112,7 +112,7 @@ checkerCases =
     ∷ row (refusal (timingOf (withPeriod 4499))) 21
     ∷ []
 
--- in every row what is found is what is published
+-- in every row what is found is what is expected
 abbrev pub agree : List Row → Bool
 agree [] = true
-agree (r ∷ rs) = eqb (r .found) (r .published) && agree rs
+agree (r ∷ rs) = eqb (r .found) (r .expected) && agree rs

@@ -19,8 +19,8 @@ fn lowest_early(stray: bool, low: bool, overdue: bool) -> u32
     if overdue { 3 } else { 0 }
 }
 
-// The last clock that rule 3 allows, by D and the last eight REF words: D behind the oldest of them, which is at the highest place that is
-// not 0, for it and for each newer one. 0 where there was no REF word yet.
+// The last clock that rule 3 allows, by D and the last eight REF words, newest first: if m is the highest place that is not 0, m × D after
+// the REF word there. 0 where all are 0, and any clock is allowed.
 pub fn deadline(refi: u32, refs: [u32; 8]) -> u64
     ensures { λ r. ⌜ r ≡ deadline refi refs ⌝ }
 {

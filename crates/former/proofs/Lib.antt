@@ -1,3 +1,2 @@
--- REF words with short gaps keep rule 3 (Gaps), and so does whatever the former rule let pass (Former).
-pub mod Gaps
+-- The theorem of specs/Former.
 pub mod Former

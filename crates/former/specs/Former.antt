@@ -8,7 +8,7 @@ use lib.Dec.{leb, ltb}
 use Rattle.config.specs.declared.Timing.{Timing}
 use Rattle.rules.specs.History.{nothing}
 use Rattle.rules.specs.Rules.{Rule, closings, wasRefresh, rule1, rule2, rules}
-use Rattle.rules.specs.Verdict.{Judgement, accepted, judgeBy, judge}
+use Rattle.rules.specs.Verdict.{Judgement, accepted, breach, judgeBy, judge}
 
 -- the former rule 3: there is a REF word before k, and k is more than D after the last one
 abbrev pub formerRule3 : Rule
@@ -24,7 +24,9 @@ formerRules = rule1 ∷ rule2 ∷ formerRule3 ∷ drop 3 rules
 abbrev pub formerJudge : Timing → List ℕ → Judgement
 formerJudge t words = judgeBy formerRules t nothing words
 
--- the theorem
+-- the theorem, on any timing and any trace
 pub record StillPasses : Type 0 where
-  -- whatever the timing, a trace that was accepted by the former rules is accepted
+  -- what was accepted by the former rules is accepted
   pub passes : (t : Timing) (words : List ℕ) → formerJudge t words ≡ accepted → judge t words ≡ accepted
+  -- a breach of another rule than 3 stays
+  pub stays : (t : Timing) (words : List ℕ) (k n : ℕ) → formerJudge t words ≡ breach k n → (n ≡ 3 → ⊥) → judge t words ≡ breach k n

@@ -12,7 +12,6 @@ use borrow.Author.Tests.{ne-eqb, le-ltb}
 use lib.ListN.{getD}
 use lib.Dec.{eqb}
 use Rattle.config.specs.declared.Timing.{Timing}
-use Rattle.command.specs.Pairs.{lal}
 use Rattle.writing.specs.Writing.{pairOf, requestFits}
 use Rattle.command.specs.declared.operation.Request.{Request}
 use Rattle.command.specs.declared.operation.Operation.the-variants.{Access}

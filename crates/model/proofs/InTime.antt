@@ -15,8 +15,8 @@ use Rattle.rules.specs.Rules.{closings, oldest, wasRead, wasWrite, wasMode, was
 use Rattle.rules.proofs.Newest.{Ordered, latest, latest-cons}
 use Rattle.rules.proofs.Summary.{summary}
 use Rattle.rules.proofs.Tests.{overdue-is}
+use Rattle.rules.proofs.Gaps.{Gaps, gaps-cons, short-gaps}
 use Rattle.rules.proofs.Words.{ordered-mono}
-use Rattle.former.proofs.Gaps.{Gaps, gaps-cons, short-gaps}
 use Rattle.model.proofs.Figures.{Figures}
 use Rattle.model.proofs.Intervals.{closings-fall, eighth}
 use Rattle.model.proofs.Spacings.{InTime, RefreshFree}
@@ -70,14 +70,14 @@ by-gaps t ps k g =
 
 module _ (t : Timing) (f : Figures t) (ps : List ClosedPair) (k : ℕ) (n : Normal t ps k) where
   -- the next word is in time too
-  pub next-in-time : k + 1 ≤ lastRef ps + t .refi
+  next-in-time : k + 1 ≤ lastRef ps + t .refi
   next-in-time =
       let h₁ = f .rc .0 in
       let h₂ = n .read in
       let h₃ = n .write in
       ⊎-elim (λ h. omega arith) (λ h. ⊎-elim (λ h. omega arith) (λ h. omega arith) h) (n .timely)
 
-  -- and so is every word up to it
+  -- so every gap up to it is short, and no word up to it is overdue
   next-gap : (j : ℕ) → j ≤ k + 1 → Gaps (t .refi) (j ∷ closings wasRefresh ps)
   next-gap j h =
       let l = next-in-time in

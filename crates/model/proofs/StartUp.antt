@@ -112,8 +112,9 @@ module _ (t : Timing) (f : Figures t) where
         let long = f .refi in
         let short = f .refc .1 in
         let shorter = f .rsc .1 in
-        waits t (idle k (pairAt t e Refresh ∷ modes)) Refresh k (2 * t .rsc + t .refc)
-        (λ h. refresh-opens t (pairAt t e Refresh ∷ modes) k (omega arith, (omega arith, (omega arith, tt))) (by-gaps t (pairAt t e Refresh ∷ modes) k (omega arith, tt)) (by-gaps t (pairAt t e Refresh ∷ modes) (k + 1) (omega arith, tt))
+        let ps = pairAt t e Refresh ∷ modes in
+        waits t (idle k ps) Refresh k (2 * t .rsc + t .refc)
+        (λ h. refresh-opens t ps k (omega arith, (omega arith, (omega arith, tt))) (by-gaps t ps k (omega arith, tt)) (by-gaps t ps (k + 1) (omega arith, tt))
         (record {
           mode = rw (pins .closes) (inr (omega arith));
           refresh = inr (omega arith);

@@ -20,10 +20,6 @@ abbrev pub words : ℕ → List At → ℕ → List ℕ
 words k [] more = replicate more 0xC0000
 words k (p ∷ ps) more = replicate (p .clock - k) 0xC0000 ++ (p .first ∷ p .second ∷ words (p .clock + 2) ps more)
 
--- the start-up of case a (RULES 8.5)
-abbrev pub startUpPairs : List At
-startUpPairs = pair 0 0xA0000 0x84000 ∷ pair 7 0xA0000 0x80042 ∷ pair 14 0x80000 0x80000 ∷ pair 32 0x80000 0x80000 ∷ []
-
 -- a read at clock k, row and column 0, of the bank whose pins are b
 abbrev pub readAt : ℕ → ℕ → At
 readAt k b = pair k (0xA0000 + b) 0xC0000
@@ -39,6 +35,10 @@ modeAt k = pair k 0xA0000 0x80042
 -- a refresh at clock k
 abbrev pub refreshAt : ℕ → At
 refreshAt k = pair k 0x80000 0x80000
+
+-- the start-up of case a (RULES 8.5)
+abbrev pub startUpPairs : List At
+startUpPairs = pair 0 0xA0000 0x84000 ∷ modeAt 7 ∷ refreshAt 14 ∷ refreshAt 32 ∷ []
 
 -- the pins of bank 1
 abbrev pub bank1 : ℕ

@@ -46,14 +46,14 @@ closing-bound f b (p ∷ ps) o i = go (f p) i (closing-bound f (p .start) ps (o 
         let q = h i in
         omega arith
 
--- the last clock that rule 3 allows: it looks at no open pair
+-- the last clock that rule 3 allows, by the REF words of a history
 module _ (refi : ℕ) (ks : List ℕ) (past : Past0 ks) where
-  -- by the m-th last of a list
+  -- m × D after the m-th last
   abbrev behind : ℕ → ℕ
   behind zero = 0
   behind (suc i) = getD ks i 0 + suc i * refi
 
-  -- the place that counts is the last of the list, or its j-th
+  -- of the first j places the last counts that the list has
   oldest-counts : (j : ℕ) → deadlineBy j refi ks ≡ behind (min (length ks) j)
   oldest-counts zero = rw (min-zero (length ks))
   oldest-counts (suc j) = by (oldest-counts j) (eqb (getD ks j 0) 0) refl
@@ -69,6 +69,7 @@ module _ (refi : ℕ) (ks : List ℕ) (past : Past0 ks) where
           let all : suc j ≡ min (length ks) (suc j) = omega arith in
           ap behind all
 
+  -- the rule for one m is a test of that clock
   allowed : (m k : ℕ) → m ≤ length ks → (leb 1 m && ltb (m * refi) (k - getD ks (m - 1) 0)) ≡ overdue (behind m) k
   allowed zero k h = refl
   allowed (suc i) k h =
@@ -77,11 +78,13 @@ module _ (refi : ℕ) (ks : List ℕ) (past : Past0 ks) where
       rw (place, le-leb 1 (suc i) (omega arith), nonzero (getD ks i 0 + suc i * refi) (omega arith))
       (ltb-same (suc i * refi) (k - getD ks i 0) (getD ks i 0 + suc i * refi) k (λ q. omega arith) (λ q. omega arith))
 
+-- rule 3 looks at no open pair
 pub overdue-is : (t : Timing) (p : Past) (w : ℕ) → rule3 t p w ≡ overdue (deadline (t .refi) (summary (p .pairs) .refs)) (p .clock)
 overdue-is t p w =
     let refs = closings wasRefresh (p .pairs) in
     let past = closings-past0 wasRefresh (p .pairs) in
-    allowed (t .refi) refs past (min (length refs) 8) (p .clock) (omega arith) ∙ ap (λ last. overdue last (p .clock)) (sym (oldest-counts (t .refi) refs past 8))
+    allowed (t .refi) refs past (min (length refs) 8) (p .clock) (omega arith)
+    ∙ ap (λ last. overdue last (p .clock)) (sym (oldest-counts (t .refi) refs past 8))
 
 module _ (t : Timing) (k : ℕ) (first second : ℕ) (ps : List ClosedPair) (o : Ordered (k - 1) ps) where
   pub ready-is : rule6 t ps (k - 1) first second ≡ (lal second && notReady (summary ps .extended) (summary ps .regular) (getD (summary ps .refs) 1 0) k)

@@ -21,21 +21,21 @@ near k c n = not (eqb c 0) && ltb k (c + n)
 abbrev pub bankStamp : Timestamps → ℕ → ℕ
 bankStamp s first = getD (s .banks) (bankOf first) 0
 
--- the last clock that rule 3 allows, by D and the last m REF words, newest first: D behind the oldest of them for it and for each newer
--- one; 0 where there is none
+-- the last clock that rule 3 allows, by D and the first so many places of the last REF words, newest first: if m is the highest place that
+-- is not 0, m × D after the REF word there; 0 where all are 0
 abbrev pub deadlineBy : ℕ → ℕ → List ℕ → ℕ
 deadlineBy zero refi refs = 0
 deadlineBy (suc i) refi refs = cond (eqb (getD refs i 0) 0) (deadlineBy i refi refs) (getD refs i 0 + suc i * refi)
 
--- the same by all eight that are kept
+-- the same by the eight that are kept
 abbrev pub deadline : ℕ → List ℕ → ℕ
 deadline refi refs = deadlineBy 8 refi refs
 
--- rule 3, by that clock
+-- rule 3: k is past the last clock that it allows, if there is one
 abbrev pub overdue : ℕ → ℕ → Bool
 overdue last k = not (eqb last 0) && ltb last k
 
--- rules 1 to 3, by the same
+-- rules 1 to 3, by the last clock that rule 3 allows
 abbrev pub earlyBreach : ℕ → ℕ → ℕ → ℕ
 earlyBreach last k w = lowest 1 (strayBit w ∷ not (high 19 w) ∷ overdue last k ∷ [])
 

@@ -68,8 +68,8 @@ rule1 t p w = strayBit w
 abbrev pub rule2 : Rule
 rule2 t p w = not (high 19 w)
 
--- rule 3 (RULES 4.3): m REF words stand before k, of more than eight the last eight; m is at least 1, and k is more than m × D after the
--- m-th last
+-- rule 3 (RULES 4.3): m is the number of REF words before k, but at most eight; m is at least 1, and k less the m-th last of them exceeds
+-- m × D
 abbrev pub rule3 : Rule
 rule3 t p w =
     let refs = closings wasRefresh (p .pairs) in

@@ -82,7 +82,7 @@ fn judged(
     packer.group(&calls);
 }
 
-/// Has a long trace judged in these three ways, each in a group of its own.
+/// Has a long trace judged step by step, whole and by a walk, each in a group of its own.
 fn judged_apart(packer: &mut Packer, sheet: &Sheet, words: &[u32]) {
     packer.group(&stepped(sheet, words));
     for call in [Call::Check, Call::Walk] {

@@ -19,7 +19,7 @@ fn name(about: &str, m: u32, gap: bool) -> String {
     format!("{about} of rule 3, m = {m}{gap}")
 }
 
-/// The name of a state's clock, if it is about the limit. No call refuses the state.
+/// The name of a state's clock, if it is about the limit; for states that no call refuses.
 pub fn about_limit(sheet: &Sheet, past: &Summary) -> Option<String> {
     let (_, m) = past.furthest_ref()?;
     let limit = past.refresh_limit(sheet)?;

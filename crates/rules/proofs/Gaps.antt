@@ -33,6 +33,7 @@ reach D k ks g zero h = omega arith
 reach D k [] g (suc i) h = absurd (omega arith)
 reach D k (j ∷ js) g (suc i) h = omega (arith, g .0, reach D j js (g .1) i (omega arith), suc-mul i D)
 
+-- so rule 3 is kept at k
 pub short-gaps : (t : Timing) (p : Past) (w : ℕ) → Gaps (t .refi) (p .clock ∷ closings wasRefresh (p .pairs)) → rule3 t p w ≡ false
 short-gaps t p w g = by (min (length refs) 8) (omega arith)
   where
