@@ -32,11 +32,11 @@ fn unready(extended: u32, regular: u32, second_last: u32, clock: u32) -> bool
 fn too_close(rda: bool, timing: Timing, read: u32, write: u32, clock: u32) -> bool
     ensures { λ r. ⌜ r ≡ tooClose rda true timing read write clock ⌝ }
 {
-    let rbd = timing.rbd();
-    let after_read = near(clock, read, rbd, 0);
-    let after_write = near(clock, write, rbd, 0);
-    let read_to_write = near(clock, read, timing.rwd(), 1);
-    let write_to_read = near(clock, write, timing.wrd(), 1);
+    let figures = timing.figures();
+    let after_read = near(clock, read, figures.rbd, 0);
+    let after_write = near(clock, write, figures.rbd, 0);
+    let read_to_write = near(clock, read, figures.rwd, 1);
+    let write_to_read = near(clock, write, figures.wrd, 1);
     (after_read | after_write) | !rda & read_to_write | rda & write_to_read
 }
 
@@ -44,12 +44,12 @@ fn too_close(rda: bool, timing: Timing, read: u32, write: u32, clock: u32) -> bo
 fn busy(rda: bool, timing: Timing, read: u32, write: u32, clock: u32) -> bool
     ensures { λ r. ⌜ r ≡ busy rda false timing read write clock ⌝ }
 {
-    let rc = timing.rc();
-    let half = timing.bl() / 2;
-    let after_read = near(clock, read, rc, 0);
-    let after_write = near(clock, write, rc, 0);
-    let read_data = near(clock, read, timing.cl(), half + 1);
-    let write_data = near(clock, write, timing.wl(), half + 1);
+    let figures = timing.figures();
+    let half = figures.bl / 2;
+    let after_read = near(clock, read, figures.rc, 0);
+    let after_write = near(clock, write, figures.rc, 0);
+    let read_data = near(clock, read, figures.cl, half + 1);
+    let write_data = near(clock, write, figures.wl, half + 1);
     (after_read | after_write) | rda & read_data | rda & write_data
 }
 
@@ -58,16 +58,17 @@ fn access_breach(timing: Timing, stamps: Timestamps, clock: u32, first: u32, sec
     requires { ⌜ lal second ≡ true ⌝ }
     ensures { λ r. ⌜ r ≡ closingBreach timing stamps clock first second ⌝ }
 {
+    let figures = timing.figures();
     let rda = high(first, FN);
     let banks = stamps.banks;
     let refs = stamps.refs;
     let bank = (first / BA0 % 8) as usize;
     let reserved = reading::lane_reserved(timing, first, second);
     let unready = unready(stamps.extended, stamps.regular, refs[1], clock);
-    let same_bank = near(clock, banks[bank], timing.rc(), 0);
+    let same_bank = near(clock, banks[bank], figures.rc, 0);
     let too_close = too_close(rda, timing, stamps.read, stamps.write, clock);
-    let after_mode = near(clock, stamps.mode, timing.rsc(), 0);
-    let after_refresh = near(clock, refs[0], timing.refc(), 0);
+    let after_mode = near(clock, stamps.mode, figures.rsc, 0);
+    let after_refresh = near(clock, refs[0], figures.refc, 0);
     // The lowest number from 9 on, and from 7 on.
     let from_9 = choose(after_mode, 9, choose(after_refresh, 10, 0));
     let from_7 = choose(same_bank, 7, choose(too_close, 8, from_9));
@@ -85,13 +86,14 @@ fn mode_or_refresh_breach(
     requires { ⌜ lal second ≡ false ⌝ }
     ensures { λ r. ⌜ r ≡ closingBreach timing stamps clock first second ⌝ }
 {
+    let figures = timing.figures();
     let rda = high(first, FN);
     let refs = stamps.refs;
     let wrong = reading::mode_wrong(timing, first, second);
-    let after_mode = near(clock, stamps.mode, timing.rsc(), 0);
-    let after_refresh = near(clock, refs[0], timing.refc(), 0);
+    let after_mode = near(clock, stamps.mode, figures.rsc, 0);
+    let after_refresh = near(clock, refs[0], figures.refc, 0);
     let busy = busy(rda, timing, stamps.read, stamps.write, clock);
-    let in_window = near(clock, refs[7], timing.window(), 0);
+    let in_window = near(clock, refs[7], figures.window, 0);
     let from_11 = choose(busy, 11, choose(!rda & in_window, 12, 0));
     let from_9 = choose(after_mode, 9, choose(after_refresh, 10, from_11));
     choose(wrong, 4, from_9)
@@ -113,8 +115,9 @@ fn closing_breach(timing: Timing, stamps: Timestamps, clock: u32, first: u32, se
 pub fn word_breach(timing: Timing, stamps: Timestamps, clock: u32, first: u32, word: u32) -> u32
     ensures { λ r. ⌜ r ≡ wordBreach timing stamps clock first word ⌝ }
 {
+    let figures = timing.figures();
     let refs = stamps.refs;
-    let last = deadline(timing.refi(), refs);
+    let last = deadline(figures.refi, refs);
     let early = early_breach(last, clock, word);
     if early != 0 {
         return early;

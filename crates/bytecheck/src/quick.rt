@@ -47,14 +47,12 @@ fn later(a: u64, b: u64) -> u64
 fn settled_from(timing: Timing, stamps: Timestamps) -> u64
     ensures { λ r. ⌜ SettledFrom timing stamps r ⌝ }
 {
+    let figures = timing.figures();
     let refs = stamps.refs;
     if (stamps.extended == 0) | (stamps.regular == 0) | (refs[1] == 0) {
         return NEVER;
     }
-    let calm = later(
-        plus(stamps.mode, timing.rsc()),
-        plus(refs[0], timing.refc()),
-    );
+    let calm = later(plus(stamps.mode, figures.rsc), plus(refs[0], figures.refc));
     later(plus(stamps.extended, 201), calm)
 }
 
@@ -70,21 +68,21 @@ fn clear(timing: Timing, recent: Recent, clock: u32, first: u32, word: u32) -> b
     ensures { λ r. ⌜ (r ≡ true → Clear timing recent clock first word) ⌝ }
 {
     let now = clock as u64;
+    let figures = timing.figures();
     let rda = high(first, FN);
-    let rbd = timing.rbd();
     let other = choose(rda, recent.write, recent.read);
-    let turn = choose(rda, timing.wrd(), timing.rwd());
+    let turn = choose(rda, figures.wrd, figures.rwd);
     let lal = high(word, CS);
     if !lal {
         return false;
     }
-    if now < plus(recent.bank, timing.rc()) {
+    if now < plus(recent.bank, figures.rc) {
         return false;
     }
-    if now < plus(recent.read, rbd) {
+    if now < plus(recent.read, figures.rbd) {
         return false;
     }
-    if now < plus(recent.write, rbd) {
+    if now < plus(recent.write, figures.rbd) {
         return false;
     }
     if now <= plus(other, turn) {
@@ -121,9 +119,10 @@ pub(crate) fn skimmed(timing: Timing, bytes: &[u8], from: Place) -> Place
     let mut stamps = from.stamps;
     let mut first = from.first;
     let mut clock = from.clock;
+    let figures = timing.figures();
     // Reads and writes change neither of these.
     let refs = stamps.refs;
-    let until = due(deadline(timing.refi(), refs));
+    let until = due(deadline(figures.refi, refs));
     let settled = settled_from(timing, stamps);
     while (clock as usize) < bytes.len() / 4 {
         let word = words::word_at(bytes, clock as usize);

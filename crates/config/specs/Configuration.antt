@@ -7,6 +7,7 @@ use lib.Dec.{eqb, leb, ltb}
 use Rattle.basics.specs.Outcome.{Outcome, value, require}
 use Rattle.config.specs.declared.Config.{Config}
 use Rattle.config.specs.declared.Timing.{Timing}
+use Rattle.config.specs.declared.figures.Figures.{Figures}
 
 -- n is one of a and b
 abbrev pub oneOf : ℕ → ℕ → ℕ → Bool
@@ -74,6 +75,25 @@ derived c =
       refi = 3900000 / c .period .0;
       window = 3200000 / c .period .0 + 1;
       spacing = spacingOf (rcOf (c .cl)) (c .rbd .0) (c .rwd .0) (c .wrd .0);
+    }
+
+-- the figures that a timing holds (RULES 1.3), each under its own name
+abbrev pub figuresOf : Timing → Figures
+figuresOf t =
+    record {
+      cl = t .cl;
+      bl = t .bl;
+      organisation = t .organisation;
+      rbd = t .rbd;
+      rwd = t .rwd;
+      wrd = t .wrd;
+      rsc = t .rsc;
+      refc = t .refc;
+      rc = t .rc;
+      wl = t .wl;
+      refi = t .refi;
+      window = t .window;
+      spacing = t .spacing;
     }
 
 -- the figures of a sheet, or refusal 20, 21, 22 or 33, tried in this order (RULES 7.1)

@@ -1,83 +1,43 @@
 // The figures of a timing, for other crates to read.
 use crate::Timing;
 ghost use mathlib.Core.Path.{_≡_};
+ghost use Rattle.config.specs.Configuration.{figuresOf};
+
+// The figures that a timing holds, under the same names.
+pub struct Figures {
+    pub cl: u32,
+    pub bl: u32,
+    pub organisation: u32,
+    pub rbd: u32,
+    pub rwd: u32,
+    pub wrd: u32,
+    pub rsc: u32,
+    pub refc: u32,
+    pub rc: u32,
+    pub wl: u32,
+    pub refi: u32,
+    pub window: u32,
+    pub spacing: u32,
+}
 
 impl Timing {
-    pub fn cl(self) -> u32
-        ensures { λ r. ⌜ r ≡ self .cl ⌝ }
+    pub fn figures(self) -> Figures
+        ensures { λ r. ⌜ r ≡ figuresOf self ⌝ }
     {
-        self.cl
-    }
-
-    pub fn bl(self) -> u32
-        ensures { λ r. ⌜ r ≡ self .bl ⌝ }
-    {
-        self.bl
-    }
-
-    pub fn organisation(self) -> u32
-        ensures { λ r. ⌜ r ≡ self .organisation ⌝ }
-    {
-        self.organisation
-    }
-
-    pub fn rbd(self) -> u32
-        ensures { λ r. ⌜ r ≡ self .rbd ⌝ }
-    {
-        self.rbd
-    }
-
-    pub fn rwd(self) -> u32
-        ensures { λ r. ⌜ r ≡ self .rwd ⌝ }
-    {
-        self.rwd
-    }
-
-    pub fn wrd(self) -> u32
-        ensures { λ r. ⌜ r ≡ self .wrd ⌝ }
-    {
-        self.wrd
-    }
-
-    pub fn rsc(self) -> u32
-        ensures { λ r. ⌜ r ≡ self .rsc ⌝ }
-    {
-        self.rsc
-    }
-
-    pub fn refc(self) -> u32
-        ensures { λ r. ⌜ r ≡ self .refc ⌝ }
-    {
-        self.refc
-    }
-
-    pub fn rc(self) -> u32
-        ensures { λ r. ⌜ r ≡ self .rc ⌝ }
-    {
-        self.rc
-    }
-
-    pub fn wl(self) -> u32
-        ensures { λ r. ⌜ r ≡ self .wl ⌝ }
-    {
-        self.wl
-    }
-
-    pub fn refi(self) -> u32
-        ensures { λ r. ⌜ r ≡ self .refi ⌝ }
-    {
-        self.refi
-    }
-
-    pub fn window(self) -> u32
-        ensures { λ r. ⌜ r ≡ self .window ⌝ }
-    {
-        self.window
-    }
-
-    pub fn spacing(self) -> u32
-        ensures { λ r. ⌜ r ≡ self .spacing ⌝ }
-    {
-        self.spacing
+        Figures {
+            cl: self.cl,
+            bl: self.bl,
+            organisation: self.organisation,
+            rbd: self.rbd,
+            rwd: self.rwd,
+            wrd: self.wrd,
+            rsc: self.rsc,
+            refc: self.refc,
+            rc: self.rc,
+            wl: self.wl,
+            refi: self.refi,
+            window: self.window,
+            spacing: self.spacing,
+        }
     }
 }

@@ -62,8 +62,9 @@ fn column(wide: bool, second: u32) -> u32
 fn access(timing: Timing, write: bool, first: u32, second: u32) -> Request
     ensures { λ r. ⌜ r ≡ accessOf timing write first second ⌝ }
 {
-    let wide = timing.organisation() == 16;
-    let short = timing.bl() == 2;
+    let figures = timing.figures();
+    let wide = figures.organisation == 16;
+    let short = figures.bl == 2;
     let lower = lane(short, high(second, BA2), high(second, A13));
     let upper = lane(short, high(second, A12), high(second, A11));
     Request {
@@ -107,12 +108,11 @@ fn decode(timing: Timing, pair: Pair) -> Operation
 fn register_fits(extended: bool, timing: Timing, second: u32) -> bool
     ensures { λ r. ⌜ r ≡ registerFits extended timing second ⌝ }
 {
-    let code = timing.bl() / 2;
-    let cl = timing.cl();
+    let figures = timing.figures();
     if extended {
         !high(second, A0)
     } else {
-        (second / A0 % 8 == code) & (second / A4 % 8 == cl)
+        (second / A0 % 8 == figures.bl / 2) & (second / A4 % 8 == figures.cl)
     }
 }
 
@@ -129,10 +129,11 @@ pub fn mode_wrong(timing: Timing, first: u32, second: u32) -> bool
 pub fn lane_reserved(timing: Timing, first: u32, second: u32) -> bool
     ensures { λ r. ⌜ r ≡ laneReserved timing first second ⌝ }
 {
+    let figures = timing.figures();
     let lower = !high(second, BA2) & !high(second, A13);
     let upper = !high(second, A12) & !high(second, A11);
     (!high(first, FN) & high(second, CS))
-        & ((timing.bl() == 4) & (lower | (timing.organisation() == 16) & upper))
+        & ((figures.bl == 4) & (lower | (figures.organisation == 16) & upper))
 }
 
 fn sound_pair(timing: Timing, first: u32, second: u32) -> bool

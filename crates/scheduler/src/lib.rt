@@ -73,8 +73,9 @@ fn refresh_due(last: u32, refi: u32, clock: u32, rc: u32) -> bool
 pub fn next_pair(timing: Timing, stamps: Timestamps, clock: u32, count: u32) -> OpenPair
     ensures { λ r. ⌜ r ≡ nextPair timing stamps clock count ⌝ }
 {
+    let figures = timing.figures();
     let refs = stamps.refs;
-    let due = refresh_due(refs[0], timing.refi(), clock, timing.rc());
+    let due = refresh_due(refs[0], figures.refi, clock, figures.rc);
     if stamps.extended == 0 {
         return OpenPair::Extended;
     }

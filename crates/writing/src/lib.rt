@@ -38,8 +38,9 @@ pub enum WriteAnswer {
 pub fn request_fits(timing: Timing, request: Request) -> bool
     ensures { λ r. ⌜ r ≡ requestFits timing request ⌝ }
 {
-    let wide = timing.organisation() == 16;
-    let long = timing.bl() == 4;
+    let figures = timing.figures();
+    let wide = figures.organisation == 16;
+    let long = figures.bl == 4;
     let lower = request.lower;
     let upper = request.upper;
     let lower_fits = (lower == 1) | (lower == 2) | long & (lower == 4);
@@ -78,8 +79,9 @@ fn lane(driven: bool, long: bool, words: u32, vw0: u32, vw1: u32) -> u32
 fn access(timing: Timing, request: Request) -> Pair
     ensures { λ r. ⌜ r ≡ accessPair timing request ⌝ }
 {
-    let long = timing.bl() == 4;
-    let wide = timing.organisation() == 16;
+    let figures = timing.figures();
+    let long = figures.bl == 4;
+    let wide = figures.organisation == 16;
     let lower = lane(request.write, long, request.lower, BA2, A13);
     let upper = lane(request.write & wide, long, request.upper, A12, A11);
     Pair {
@@ -94,10 +96,13 @@ pub fn encode(timing: Timing, operation: Operation) -> Pair
 {
     match operation {
         Operation::Access(request) => access(timing, request),
-        Operation::Regular(a3) => Pair {
-            first: PD + FN,
-            second: PD + timing.cl() % 8 * A4 + bit(a3) * A3 + timing.bl() / 2 % 8 * A0,
-        },
+        Operation::Regular(a3) => {
+            let figures = timing.figures();
+            Pair {
+                first: PD + FN,
+                second: PD + figures.cl % 8 * A4 + bit(a3) * A3 + figures.bl / 2 % 8 * A0,
+            }
+        }
         Operation::Extended(v) => Pair {
             first: PD + FN,
             second: PD + BA0 + v % 64 * A1,

@@ -6,11 +6,8 @@ use Rattle.breaches.proofs.Sums.{no-more, and-one}
 use Rattle.breaches.proofs.busy.Statement.{statement}
 use Rattle.breaches.proofs.busy.Tie as tie
 
-rc-requires : tie.Need-rc-requires
-rc-requires c κs = search needs
-
-bl-requires : tie.Need-bl-requires
-bl-requires c κs = search needs
+figures-requires : tie.Need-figures-requires
+figures-requires c κs = search needs
 
 near-requires : tie.Need-near-requires
 near-requires c κs = search needs
@@ -18,17 +15,11 @@ near-requires c κs = search needs
 near-requires-2 : tie.Need-near-requires-2
 near-requires-2 c κs = search needs
 
-cl-requires : tie.Need-cl-requires
-cl-requires c κs = search needs
-
 add-near : tie.Need-add-near
 add-near c = search needs
 
 near-requires-3 : tie.Need-near-requires-3
 near-requires-3 c κs = search needs
-
-wl-requires : tie.Need-wl-requires
-wl-requires c κs = search needs
 
 add-near-2 : tie.Need-add-near-2
 add-near-2 c = search needs
@@ -38,18 +29,15 @@ near-requires-4 c κs = search needs
 
 returns : tie.Need-returns
 returns c =
-    let begun = c .before .before .before .before .before .before .before .before in
-    let a = begun .args in
+    let called = c .before .before .before .before .before in
+    let a = called .before .args in
     let half = a .timing .bl / 2 in
     rw (
       c .near4 .ensures,
-      c .before .wl .ensures,
-      c .before .before .near3 .ensures,
-      c .before .before .before .cl .ensures,
-      c .before .before .before .before .near2 .ensures,
-      c .before .before .before .before .before .near .ensures,
-      c .before .before .before .before .before .before .bl .ensures,
-      c .before .before .before .before .before .before .before .rc .ensures,
+      c .before .near3 .ensures,
+      c .before .before .near2 .ensures,
+      c .before .before .before .near .ensures,
+      called .figures .ensures,
       no-more (a .timing .rc),
       and-one (a .timing .cl) half,
       and-one (a .timing .wl) half,
@@ -60,14 +48,11 @@ pub busy-spec : {M : Type 1} → statement M
 busy-spec =
     tie.close
     (tie.spec
-    rc-requires
-    bl-requires
+    figures-requires
     near-requires
     near-requires-2
-    cl-requires
     add-near
     near-requires-3
-    wl-requires
     add-near-2
     near-requires-4
     returns)

@@ -5,8 +5,8 @@ use Rattle.breaches.proofs.Sums.{no-more}
 use Rattle.breaches.proofs.too_close.Statement.{statement}
 use Rattle.breaches.proofs.too_close.Tie as tie
 
-rbd-requires : tie.Need-rbd-requires
-rbd-requires c κs = search needs
+figures-requires : tie.Need-figures-requires
+figures-requires c κs = search needs
 
 near-requires : tie.Need-near-requires
 near-requires c κs = search needs
@@ -14,30 +14,22 @@ near-requires c κs = search needs
 near-requires-2 : tie.Need-near-requires-2
 near-requires-2 c κs = search needs
 
-rwd-requires : tie.Need-rwd-requires
-rwd-requires c κs = search needs
-
 near-requires-3 : tie.Need-near-requires-3
 near-requires-3 c κs = search needs
-
-wrd-requires : tie.Need-wrd-requires
-wrd-requires c κs = search needs
 
 near-requires-4 : tie.Need-near-requires-4
 near-requires-4 c κs = search needs
 
 returns : tie.Need-returns
 returns c =
-    let begun = c .before .before .before .before .before .before .before in
-    let a = begun .args in
+    let called = c .before .before .before .before in
+    let a = called .before .args in
     rw (
       c .near4 .ensures,
-      c .before .wrd .ensures,
-      c .before .before .near3 .ensures,
-      c .before .before .before .rwd .ensures,
-      c .before .before .before .before .near2 .ensures,
-      c .before .before .before .before .before .near .ensures,
-      c .before .before .before .before .before .before .rbd .ensures,
+      c .before .near3 .ensures,
+      c .before .before .near2 .ensures,
+      c .before .before .before .near .ensures,
+      called .figures .ensures,
       no-more (a .timing .rbd),
       and-true (a .rda),
       and-true (not (a .rda)),
@@ -47,11 +39,9 @@ pub too-close-spec : {M : Type 1} → statement M
 too-close-spec =
     tie.close
     (tie.spec
-    rbd-requires
+    figures-requires
     near-requires
     near-requires-2
-    rwd-requires
     near-requires-3
-    wrd-requires
     near-requires-4
     returns)

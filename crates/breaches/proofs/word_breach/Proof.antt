@@ -12,7 +12,7 @@ use Rattle.breaches.proofs.word_breach.Tie as tie
 -- the number of rules 1 to 3
 early : (c : tie.After-early-breach) → let a = c .before .before .before .before .args in
     c .early-breach .result ≡ earlyBreach (deadline (a .timing .refi) (a .stamps .refs)) (a .clock) (a .word)
-early c = rw (c .before .deadline .ensures, c .before .before .refi .ensures) at (c .early-breach .ensures)
+early c = rw (c .before .deadline .ensures, c .before .before .before .figures .ensures) at (c .early-breach .ensures)
 
 -- what the two tests tell
 none-early : (c : tie.Else1) → let a = c .before .before .before .before .before .args in
@@ -25,8 +25,8 @@ opened c = ap not (sym (c .before .high .ensures)) ∙ c .if2 .taken
 idle : (c : tie.Else2) → opens (c .before .before .before .before .before .before .before .args .first) ≡ false
 idle c = ap not (sym (c .before .high .ensures)) ∙ c .if2 .left
 
-refi-requires : tie.Need-refi-requires
-refi-requires c κs = search needs
+figures-requires : tie.Need-figures-requires
+figures-requires c κs = search needs
 
 deadline-requires : tie.Need-deadline-requires
 deadline-requires c κs = search needs
@@ -53,7 +53,7 @@ pub word-breach-spec : {M : Type 1} → statement M
 word-breach-spec =
     tie.close
     (tie.spec
-    refi-requires
+    figures-requires
     deadline-requires
     early-breach-requires
     returns

@@ -3,11 +3,8 @@ use borrow.Author.Needs.{needs}
 use Rattle.reading.proofs.access.Statement.{statement}
 use Rattle.reading.proofs.access.Tie as tie
 
-organisation-requires : tie.Need-organisation-requires
-organisation-requires c κs = search needs
-
-bl-requires : tie.Need-bl-requires
-bl-requires c κs = search needs
+figures-requires : tie.Need-figures-requires
+figures-requires c κs = search needs
 
 high-requires : tie.Need-high-requires
 high-requires c κs = search needs
@@ -38,14 +35,13 @@ kept-requires-2 c κs = search needs
 
 returns : tie.Need-returns
 returns c = rw
-    (c .kept2 .ensures .0, c .before .kept .ensures .0, c .before .before .column .ensures, c .before .before .before .lane2 .ensures, c .before .before .before .before .high4 .ensures, c .before .before .before .before .before .high3 .ensures, c .before .before .before .before .before .before .lane .ensures, c .before .before .before .before .before .before .before .high2 .ensures, c .before .before .before .before .before .before .before .before .high .ensures, c .before .before .before .before .before .before .before .before .before .bl .ensures, c .before .before .before .before .before .before .before .before .before .before .organisation .ensures)
+    (c .kept2 .ensures .0, c .before .kept .ensures .0, c .before .before .column .ensures, c .before .before .before .lane2 .ensures, c .before .before .before .before .high4 .ensures, c .before .before .before .before .before .high3 .ensures, c .before .before .before .before .before .before .lane .ensures, c .before .before .before .before .before .before .before .high2 .ensures, c .before .before .before .before .before .before .before .before .high .ensures, c .before .before .before .before .before .before .before .before .before .before .before .figures .ensures)
 
 pub access-spec : {M : Type 1} → statement M
 access-spec =
     tie.close
     (tie.spec
-    organisation-requires
-    bl-requires
+    figures-requires
     high-requires
     high-requires-2
     lane-requires

@@ -13,7 +13,7 @@ use Rattle.scheduler.proofs.next_pair.Tie as tie
 
 -- the start, from each of the first two tests and from the last two
 abbrev at-1 : tie.After-struct-known → tie.Start
-at-1 c = c .before .before .before .before .before
+at-1 c = c .before .before .before .before
 
 abbrev at-2 : tie.After-struct-known2 → tie.Start
 at-2 c = at-1 (c .before .before)
@@ -38,15 +38,15 @@ no-regular c = eq-eqb (at-2 (c .before) .args .stamps .regular) 0 (omega arith)
 regular : (c : tie.Else2) → eqb (at-2 (c .before) .args .stamps .regular) 0 ≡ false
 regular c = ne-eqb (at-2 (c .before) .args .stamps .regular) 0 (c .if2 .left)
 
-not-due : (c : tie.Else3) → let d = c .before .before .before .before .before in let a = d .before .before .before .before .args in due (a .stamps) (a .timing .refi) (a .clock) (a .timing .rc) ≡ false
+not-due : (c : tie.Else3) → let d = c .before .before .before .before .before in let a = d .before .before .before .args in due (a .stamps) (a .timing .refi) (a .clock) (a .timing .rc) ≡ false
 not-due c =
     let d = c .before .before .before .before .before in
-    rw (← d .before .before .refi .ensures, ← d .before .rc .ensures, ← d .refresh-due .ensures) (c .if3 .left)
+    rw (d .refresh-due .ensures, d .before .before .figures .ensures) at (c .if3 .left)
 
-is-due : (c : tie.Then3) → let d = c .before .before .before .before .before in let a = d .before .before .before .before .args in due (a .stamps) (a .timing .refi) (a .clock) (a .timing .rc) ≡ true
+is-due : (c : tie.Then3) → let d = c .before .before .before .before .before in let a = d .before .before .before .args in due (a .stamps) (a .timing .refi) (a .clock) (a .timing .rc) ≡ true
 is-due c =
     let d = c .before .before .before .before .before in
-    rw (← d .before .before .refi .ensures, ← d .before .rc .ensures, ← d .refresh-due .ensures) (c .if3 .taken)
+    rw (d .refresh-due .ensures, d .before .before .figures .ensures) at (c .if3 .taken)
 
 none-waits : (c : tie.Then4) → eqb (at-4 (c .before) .args .count) 0 ≡ true
 none-waits c = eq-eqb (at-4 (c .before) .args .count) 0 (omega arith)
@@ -54,14 +54,11 @@ none-waits c = eq-eqb (at-4 (c .before) .args .count) 0 (omega arith)
 one-waits : (c : tie.Else4) → eqb (at-4 (c .before) .args .count) 0 ≡ false
 one-waits c = ne-eqb (at-4 (c .before) .args .count) 0 (c .if4 .left)
 
+figures-requires : tie.Need-figures-requires
+figures-requires c κs = search needs
+
 array-read-refresh-due : tie.Need-array-read-refresh-due
 array-read-refresh-due c = search needs
-
-refi-requires : tie.Need-refi-requires
-refi-requires c κs = search needs
-
-rc-requires : tie.Need-rc-requires
-rc-requires c κs = search needs
 
 refresh-due-requires : tie.Need-refresh-due-requires
 refresh-due-requires c κs = search needs
@@ -92,9 +89,8 @@ pub next-pair-spec : {M : Type 1} → statement M
 next-pair-spec =
     tie.close
     (tie.spec
+    figures-requires
     array-read-refresh-due
-    refi-requires
-    rc-requires
     refresh-due-requires
     returns
     returns-2

@@ -13,11 +13,11 @@ access-requires c κs = search needs
 enum-known-operation-2 : tie.Need-enum-known-operation-2
 enum-known-operation-2 c = search needs
 
-add-t7 : tie.Need-add-t7
-add-t7 c = omega arith
+figures-requires : tie.Need-figures-requires
+figures-requires c κs = search needs
 
-cl-requires : tie.Need-cl-requires
-cl-requires c κs = search needs
+add-t8 : tie.Need-add-t8
+add-t8 c = omega arith
 
 mul-t10 : tie.Need-mul-t10
 mul-t10 c = omega arith
@@ -34,29 +34,26 @@ mul-t13 c = omega arith
 add-t14 : tie.Need-add-t14
 add-t14 c = omega arith
 
-bl-requires : tie.Need-bl-requires
-bl-requires c κs = search needs
+mul-t17 : tie.Need-mul-t17
+mul-t17 c = omega arith
 
-mul-t18 : tie.Need-mul-t18
-mul-t18 c = omega arith
-
-add-t19 : tie.Need-add-t19
-add-t19 c = omega arith
+add-t18 : tie.Need-add-t18
+add-t18 c = omega arith
 
 enum-known-operation-3 : tie.Need-enum-known-operation-3
 enum-known-operation-3 c = search needs
 
+add-t19 : tie.Need-add-t19
+add-t19 c = omega arith
+
 add-t20 : tie.Need-add-t20
 add-t20 c = omega arith
 
-add-t21 : tie.Need-add-t21
-add-t21 c = omega arith
+mul-t22 : tie.Need-mul-t22
+mul-t22 c = omega arith
 
-mul-t23 : tie.Need-mul-t23
-mul-t23 c = omega arith
-
-add-t24 : tie.Need-add-t24
-add-t24 c = omega arith
+add-t23 : tie.Need-add-t23
+add-t23 c = omega arith
 
 enum-told : tie.Need-enum-told
 enum-told c = search needs
@@ -65,7 +62,9 @@ returns : tie.Need-returns
 returns c = rw (c .access .ensures, c .before .before .operation .given .1)
 
 returns-2 : tie.Need-returns-2
-returns-2 c = rw (c .before .before .before .before .operation2 .given .1, c .bl .ensures, c .before .bit .ensures .0, c .before .before .cl .ensures)
+returns-2 c =
+    let figures = c .before .before .before in
+    rw (figures .before .before .operation2 .given .1, c .before .bit .ensures .0, figures .figures .ensures)
 
 returns-3 : tie.Need-returns-3
 returns-3 c = rw (c .before .operation3 .given .1)
@@ -80,21 +79,20 @@ encode-spec =
     enum-known-operation
     access-requires
     enum-known-operation-2
-    add-t7
-    cl-requires
+    figures-requires
+    add-t8
     mul-t10
     add-t11
     bit-requires
     mul-t13
     add-t14
-    bl-requires
-    mul-t18
-    add-t19
+    mul-t17
+    add-t18
     enum-known-operation-3
+    add-t19
     add-t20
-    add-t21
-    mul-t23
-    add-t24
+    mul-t22
+    add-t23
     enum-told
     returns
     returns-2

@@ -17,20 +17,14 @@ far-apart : (rda : Bool) (t : Timing) (read write k : ℕ) → read + t .rbd ≤
 far-apart true t read write k r w o = rw (far k read (t .rbd) r, far k write (t .rbd) w) (far k write (t .wrd + 1) (omega arith))
 far-apart false t read write k r w o = rw (far k read (t .rbd) r, far k write (t .rbd) w, far k read (t .rwd + 1) (omega arith))
 
+figures-requires : tie.Need-figures-requires
+figures-requires c κs = search needs
+
 high-requires : tie.Need-high-requires
 high-requires c κs = search needs
 
-rbd-requires : tie.Need-rbd-requires
-rbd-requires c κs = search needs
-
 choose-requires : tie.Need-choose-requires
 choose-requires c κs = search needs
-
-wrd-requires : tie.Need-wrd-requires
-wrd-requires c κs = search needs
-
-rwd-requires : tie.Need-rwd-requires
-rwd-requires c κs = search needs
 
 choose-requires-2 : tie.Need-choose-requires-2
 choose-requires-2 c κs = search needs
@@ -40,9 +34,6 @@ high-requires-2 c κs = search needs
 
 returns : tie.Need-returns
 returns c e = absurd (false≢true e)
-
-rc-requires : tie.Need-rc-requires
-rc-requires c κs = search needs
 
 plus-requires : tie.Need-plus-requires
 plus-requires c κs = search needs
@@ -78,25 +69,24 @@ returns-6 c e =
     let after-write = turned .before .before in
     let after-read = after-write .before .before in
     let same-bank = after-read .before .before in
-    let closing = same-bank .before .before .before in
+    let closing = same-bank .before .before in
     let turn = closing .before .before in
-    let wrd = turn .before .before in
-    let other = wrd .before in
-    let rbd = other .before in
-    let opening = rbd .before in
-    let a = opening .before .args in
+    let other = turn .before in
+    let opening = other .before in
+    let figures = opening .before .figures .ensures in
+    let a = opening .before .before .args in
     record {
       isLal = sym (closing .before .high2 .ensures) ∙ not-false (closing .before .high2 .result) (closing .if1 .left);
       unreserved = sym (reserved .ensures) ∙ not-true (reserved .result) e;
       rested =
           far (a .clock) (a .recent .bank) (a .timing .rc)
-          (omega (arith, same-bank .before .before .rc .ensures, same-bank .before .plus .ensures, same-bank .if2 .left));
+          (omega (arith, rw figures at (same-bank .before .plus .ensures), same-bank .if2 .left));
       spaced =
           far-apart (rda (a .first)) (a .timing) (a .recent .read) (a .recent .write) (a .clock)
-          (omega (arith, rbd .rbd .ensures, after-read .before .plus2 .ensures, after-read .if3 .left))
-          (omega (arith, rbd .rbd .ensures, after-write .before .plus3 .ensures, after-write .if4 .left))
-          (rw (← opening .high .ensures, ← wrd .wrd .ensures, ← turn .before .rwd .ensures)
-          (rw (← other .choose .ensures, ← turn .choose2 .ensures)
+          (omega (arith, rw figures at (after-read .before .plus2 .ensures), after-read .if3 .left))
+          (omega (arith, rw figures at (after-write .before .plus3 .ensures), after-write .if4 .left))
+          (rw (← opening .high .ensures)
+          (rw (← other .choose .ensures, ← (rw figures at (turn .choose2 .ensures)))
           (omega (arith, turned .before .plus4 .ensures, turned .if5 .left))));
     }
 
@@ -104,15 +94,12 @@ pub clear-spec : {M : Type 1} → statement M
 clear-spec =
     tie.close
     (tie.spec
+    figures-requires
     high-requires
-    rbd-requires
     choose-requires
-    wrd-requires
-    rwd-requires
     choose-requires-2
     high-requires-2
     returns
-    rc-requires
     plus-requires
     returns-2
     plus-requires-2

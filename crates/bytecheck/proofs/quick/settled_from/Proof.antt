@@ -8,23 +8,20 @@ use Rattle.bytecheck.proofs.Passing.{far}
 use Rattle.bytecheck.proofs.quick.settled_from.Statement.{statement}
 use Rattle.bytecheck.proofs.quick.settled_from.Tie as tie
 
+figures-requires : tie.Need-figures-requires
+figures-requires c κs = search needs
+
 array-read-if1 : tie.Need-array-read-if1
 array-read-if1 c = search needs
 
 returns : tie.Need-returns
 returns c k h from = absurd (omega arith)
 
-rsc-requires : tie.Need-rsc-requires
-rsc-requires c κs = search needs
-
 plus-requires : tie.Need-plus-requires
 plus-requires c κs = search needs
 
 array-read-plus : tie.Need-array-read-plus
 array-read-plus c = search needs
-
-refc-requires : tie.Need-refc-requires
-refc-requires c κs = search needs
 
 plus-requires-2 : tie.Need-plus-requires-2
 plus-requires-2 c κs = search needs
@@ -41,26 +38,26 @@ later-requires-2 c κs = search needs
 returns-2 : tie.Need-returns-2
 returns-2 c k h from =
     let calm = c .before .before in
-    let started = calm .before .before .before .before .before in
-    let a = started .before .before .before .before .args in
+    let started = calm .before .before .before in
+    let called = started .before .before .before .before in
+    let a = called .before .args in
     let s = a .stamps in
     let t = a .timing in
     record {
       ready = rw (started .if1 .left) (le-ltb k (s .extended + 201) (omega arith));
-      afterMode = far k (s .mode) (t .rsc) (omega arith);
-      afterRefresh = far k (getD (s .refs) 0 0) (t .refc) (omega arith);
+      afterMode = far k (s .mode) (t .rsc) (omega (arith, rw (called .figures .ensures) at (calm .before .before .plus .ensures)));
+      afterRefresh = far k (getD (s .refs) 0 0) (t .refc) (omega (arith, rw (called .figures .ensures) at (calm .before .plus2 .ensures)));
     }
 
 pub settled-from-spec : {M : Type 1} → statement M
 settled-from-spec =
     tie.close
     (tie.spec
+    figures-requires
     array-read-if1
     returns
-    rsc-requires
     plus-requires
     array-read-plus
-    refc-requires
     plus-requires-2
     later-requires
     plus-requires-3

@@ -103,8 +103,8 @@ access c =
     (rw (rda .high2 .ensures) at (c .before .choose .ensures))
     (rw (rda .high2 .ensures) at (c .choose2 .ensures))
 
-refi-requires : tie.Need-refi-requires Inv-loop μ-loop
-refi-requires c κs = search needs
+figures-requires : tie.Need-figures-requires Inv-loop μ-loop
+figures-requires c κs = search needs
 
 deadline-requires : tie.Need-deadline-requires Inv-loop μ-loop
 deadline-requires c κs = search needs
@@ -120,7 +120,7 @@ loop-holds c =
     record {
       fits = search needs;
       passed = none;
-      due = rw (c .before .before .deadline .ensures, c .before .before .before .refi .ensures) at (c .before .due .ensures);
+      due = rw (c .before .before .deadline .ensures, c .before .before .before .before .figures .ensures) at (c .before .due .ensures);
       calm = c .settled-from .ensures;
     }
 
@@ -231,7 +231,7 @@ skimmed-spec =
     (tie.spec
     Inv-loop
     μ-loop
-    refi-requires
+    figures-requires
     deadline-requires
     due-requires
     settled-from-requires
