@@ -120,8 +120,8 @@ pub(crate) fn skimmed(timing: Timing, bytes: &[u8], from: Place) -> Place
     let mut first = from.first;
     let mut clock = from.clock;
     let figures = timing.figures();
-    // Reads and writes change neither of these.
     let refs = stamps.refs;
+    // Reads and writes change neither of these.
     let until = due(deadline(figures.refi, refs));
     let settled = settled_from(timing, stamps);
     while (clock as usize) < bytes.len() / 4 {
