@@ -2,13 +2,12 @@
 -- kept goes on past any number of them. Assumes nothing.
 use Prim.Native.Nat.{ℕ, _+_, _/_, _^_, _≤_, _<_}
 use mathlib.Core.Path.{_≡_, refl, sym, _∙_, ap}
-use mathlib.Core.Bool.{true, false, not, cond, _&&_, and-false}
+use mathlib.Core.Bool.{true, false, not, cond, and-false}
 use mathlib.Core.List.{List}
 use native.Mathlib.Omega.{arith}
-use borrow.Author.Tests.{le-ltb, lt-leb, eqb-true, leb-true}
+use borrow.Author.Tests.{le-ltb, lt-leb}
 use lib.ListN.{length, getD, set, drop}
-use lib.Dec.{eqb, leb}
-use Rattle.config.proofs.Bounds.{both}
+use lib.Dec.{eqb}
 use Rattle.config.specs.declared.Timing.{Timing}
 use Rattle.command.specs.Pins.{high}
 use Rattle.command.specs.Pairs.{rda}
@@ -30,15 +29,8 @@ pub far : (k c n : ℕ) → c + n ≤ k → near k c n ≡ false
 far k c n h = rw (le-ltb k (c + n) h) (and-false (not (eqb c 0)))
 
 -- rules 1 to 3 are kept
-early-kept : (last k w : ℕ) → w / 2 ^ 19 ≡ 1 → overdue last k ≡ false → earlyBreach last k w ≡ 0
+pub early-kept : (last k w : ℕ) → w / 2 ^ 19 ≡ 1 → overdue last k ≡ false → earlyBreach last k w ≡ 0
 early-kept last k w e due = rw (lt-leb (2 ^ 20) w (omega arith), e, due)
-
--- the same by the test of a word and of its clock, up to which rule 3 is kept
-pub early-by : (last k w until : ℕ) → (eqb (w / 2 ^ 19) 1 && leb k until) ≡ true
-    → ((j : ℕ) → j ≤ until → overdue last j ≡ false) → earlyBreach last k w ≡ 0
-early-by last k w until e due =
-    let h = both (eqb (w / 2 ^ 19) 1) (leb k until) e in
-    early-kept last k w (eqb-true (w / 2 ^ 19) 1 (h .0)) (due k (leb-true k until (h .1)))
 
 -- what rules 7 and 8 compare the pair of this first word with
 abbrev recentOf : Timestamps → ℕ → Recent

@@ -1,5 +1,5 @@
 -- What a quick look at a word goes by.
-use Prim.Native.Nat.{ℕ, _≤_}
+use Prim.Native.Nat.{ℕ, _≤_, _<_}
 use mathlib.Core.List.{List}
 use mathlib.Core.Path.{_≡_}
 use mathlib.Core.Bool.{true, false}
@@ -29,9 +29,9 @@ pub record Clear (t : Timing) (recent : Recent) (k first word : ℕ) : Type 0 wh
   pub rested : near k (recent .bank) (t .rc) ≡ false
   pub spaced : tooClose (rda first) true t (recent .read) (recent .write) k ≡ false
 
--- the words from clock k to j breach nothing and change nothing, whatever is kept of the past, if rule 3 is kept up to `until`
+-- the words from clock k to j breach nothing and change nothing, whatever is kept of the past, if rule 3 is kept before `end`
 abbrev pub DeslPassed : ℕ → ℕ → List ℕ → ℕ → ℕ → Type 0
-DeslPassed first until words k j =
+DeslPassed first end words k j =
     (t : Timing) (s : Timestamps)
-    → ((i : ℕ) → i ≤ until → overdue (deadline (t .refi) (s .refs)) i ≡ false)
+    → ((i : ℕ) → i < end → overdue (deadline (t .refi) (s .refs)) i ≡ false)
     → Passed t words (record { clock = k; first = first; stamps = s }) (record { clock = j; first = first; stamps = s })

@@ -13,7 +13,7 @@ use stamps::Timestamps;
 use stamps::next_first;
 ghost use mathlib.Core.Path.{_≡_};
 ghost use mathlib.Core.Bool.{true, false};
-ghost use Prim.Native.Nat.{ℕ, _+_, _≤_, _/_};
+ghost use Prim.Native.Nat.{ℕ, _+_, _≤_, _<_, _/_};
 ghost use lib.ListN.{length};
 ghost use Rattle.words.specs.Words.{wordsOf};
 ghost use Rattle.rules.specs.Breaches.{overdue};
@@ -30,11 +30,14 @@ fn plus(stamp: u32, clocks: u32) -> u64
     stamp as u64 + clocks as u64
 }
 
-// A clock up to which rule 3 is kept: the last that it allows, or any where there was no REF word yet.
-fn due(last: u64) -> u64
-    ensures { λ r. ⌜ ((k : ℕ) → k ≤ r → overdue last k ≡ false) ⌝ }
+// How many words keep rule 3, of so many: up to the last clock that it allows, or all where that is 0.
+fn in_time(last: u64, count: u64) -> u64
+    ensures { λ r. ⌜ (r ≤ count) × ((k : ℕ) → k < r → overdue last k ≡ false) ⌝ }
 {
-    if last == 0 { NEVER } else { last }
+    if last == 0 {
+        return count;
+    }
+    if last < count { last + 1 } else { count }
 }
 
 fn later(a: u64, b: u64) -> u64
@@ -91,19 +94,18 @@ fn clear(timing: Timing, recent: Recent, clock: u32, first: u32, word: u32) -> b
     !reading::lane_reserved(timing, first, word)
 }
 
-// Passes over the DESL words from a clock on that stand no later than `until`, where no pair is open.
-fn past_desl(bytes: &[u8], first: u32, clock: u32, until: u64) -> u32
-    requires { ⌜ length (now bytes) / 4 ≤ 16777216 ⌝ }
-    ensures { λ r. ⌜ (clock ≤ r) × DeslPassed first until (wordsOf (now (bytes .entry))) clock r ⌝ }
+// Passes over the DESL words from a clock on that stand before `end`, where no pair is open.
+fn past_desl(bytes: &[u8], first: u32, clock: u32, end: u64) -> u32
+    requires { ⌜ (length (now bytes) / 4 ≤ 16777216) × (end ≤ length (now bytes) / 4) ⌝ }
+    ensures { λ r. ⌜ (clock ≤ r) × DeslPassed first end (wordsOf (now (bytes .entry))) clock r ⌝ }
 {
     if first != DESL {
         return clock;
     }
     let mut at = clock;
-    while (at as usize) < bytes.len() / 4 {
+    while (at as u64) < end {
         let word = words::word_at(bytes, at as usize);
-        let passed = (word / CS == 3) & (at as u64 <= until);
-        if !passed {
+        if word / CS != 3 {
             return at;
         }
         at += 1;
@@ -122,17 +124,16 @@ pub(crate) fn skimmed(timing: Timing, bytes: &[u8], from: Place) -> Place
     let figures = timing.figures();
     let refs = stamps.refs;
     // Reads and writes change neither of these.
-    let until = due(deadline(figures.refi, refs));
+    let end = in_time(deadline(figures.refi, refs), (bytes.len() / 4) as u64);
     let settled = settled_from(timing, stamps);
-    while (clock as usize) < bytes.len() / 4 {
+    while (clock as u64) < end {
         let word = words::word_at(bytes, clock as usize);
-        let sound = (word / PD == 1) & (clock as u64 <= until);
-        if !sound {
+        if word / PD != 1 {
             break;
         }
         if high(first, CS) {
             first = next_first(first, word);
-            clock = past_desl(bytes, first, clock + 1, until);
+            clock = past_desl(bytes, first, clock + 1, end);
             continue;
         }
         if (clock as u64) < settled {

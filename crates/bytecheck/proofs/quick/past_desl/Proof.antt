@@ -2,12 +2,9 @@
 use Prim.Native.Nat.{_-_, _/_, _^_, _≤_, _<_}
 use native.Mathlib.Omega.{arith}
 use borrow.Author.Needs.{needs}
-use borrow.Author.Tests.{not-false, eqb-true, leb-true}
 use mathlib.Core.Path.{_∙_}
-use lib.Dec.{eqb, leb}
 use lib.ListN.{length}
 use denote.Ref.{now}
-use Rattle.config.proofs.Bounds.{both}
 use Rattle.words.specs.Words.{wordsOf}
 use Rattle.words.proofs.Listed.{words-length, word-listed}
 use Rattle.bytecheck.specs.Passed.{none, more}
@@ -17,10 +14,10 @@ use Rattle.bytecheck.proofs.quick.past_desl.Statement.{statement}
 use Rattle.bytecheck.proofs.quick.past_desl.Tie as tie
 
 abbrev Inv-loop : tie.InvT-loop
-Inv-loop bytes first clock until at₀ at = (at < 2 ^ 32) × (clock ≤ at) × DeslPassed first until (wordsOf bytes) clock at
+Inv-loop bytes first clock end at₀ at = (at < 2 ^ 32) × (clock ≤ at) × DeslPassed first end (wordsOf bytes) clock at
 
 abbrev μ-loop : tie.MeasureT-loop
-μ-loop bytes first clock until at₀ at = length bytes / 4 - at
+μ-loop bytes first clock end at₀ at = end - at
 
 returns : tie.Need-returns Inv-loop μ-loop
 returns c = (search needs, λ t s due. none)
@@ -36,9 +33,6 @@ cast-word-at c = search needs
 
 word-at-requires : tie.Need-word-at-requires Inv-loop μ-loop
 word-at-requires c κs = search needs
-
-cast-passed : tie.Need-cast-passed Inv-loop μ-loop
-cast-passed c = search needs
 
 returns-2 : tie.Need-returns-2 Inv-loop μ-loop
 returns-2 c = let inv = c .before .before .before .loop .inv in (inv .1, inv .2)
@@ -58,14 +52,14 @@ loop-again c =
     let idle = read .before .before .before in
     let a = idle .before .before .args in
     let bytes = now (a .bytes) in
-    let desl = both (eqb (w / 2 ^ 18) 3) (leb (l .at) (a .until)) (not-false _ (c .if2 .left)) in (
+    let listed : l .at < length bytes / 4 = omega arith in (
       omega arith,
       omega arith,
       λ t s due. more (l .inv .2 t s due)
           (desl-passes t s (wordsOf bytes) (l .at) (a .first) (idle .if1 .left)
-          (rw (words-length bytes) inside)
-          (due (l .at) (leb-true (l .at) (a .until) (desl .1)))
-          (rw (← read .word-at .ensures ∙ word-listed bytes (l .at) inside) (eqb-true (w / 2 ^ 18) 3 (desl .0)))),
+          (rw (words-length bytes) listed)
+          (due (l .at) inside)
+          (rw (← read .word-at .ensures ∙ word-listed bytes (l .at) listed) (c .if2 .left))),
     )
 
 returns-3 : tie.Need-returns-3 Inv-loop μ-loop
@@ -82,7 +76,6 @@ past-desl-spec =
     cast-loop
     cast-word-at
     word-at-requires
-    cast-passed
     returns-2
     add-at
     loop-less

@@ -1,6 +1,6 @@
 -- Each turn passes a word, and where no pair is open the DESL words after it. The timestamps that the two deadlines go by stay as they
 -- are. Assumes nothing.
-use Prim.Native.Nat.{ℕ, _+_, _-_, _/_, _^_, _≤_, _<_}
+use Prim.Native.Nat.{ℕ, _+_, _-_, _/_, _^_, _<_}
 use mathlib.Core.Path.{_≡_, sym, _∙_}
 use mathlib.Core.Bool.{false}
 use mathlib.Core.List.{List}
@@ -16,25 +16,25 @@ use Rattle.rules.specs.Breaches.{deadline, overdue, earlyBreach}
 use Rattle.bytecheck.specs.Passed.{Passes, Passed, none, more}
 use Rattle.bytecheck.specs.Quick.{Settled, SettledFrom}
 use Rattle.bytecheck.specs.declared.place.Place.{Place}
-use Rattle.bytecheck.proofs.Passing.{early-by, accessed, idle-passes, access-passes, passed-on}
+use Rattle.bytecheck.proofs.Passing.{early-kept, accessed, idle-passes, access-passes, passed-on}
 use Rattle.bytecheck.proofs.quick.skimmed.Statement.{statement}
 use Rattle.bytecheck.proofs.quick.skimmed.Tie as tie
 
 -- what holds at each turn
-record Skimming (t : Timing) (bytes : List ℕ) (from at : Place) (until settled : ℕ) : Type 0 where
+record Skimming (t : Timing) (bytes : List ℕ) (from at : Place) (end settled : ℕ) : Type 0 where
   fits : at .clock < 2 ^ 32
   passed : Passed t (wordsOf bytes) from at
   -- the two deadlines are right for the timestamps reached
-  due : (k : ℕ) → k ≤ until → overdue (deadline (t .refi) (at .stamps .refs)) k ≡ false
+  due : (k : ℕ) → k < end → overdue (deadline (t .refi) (at .stamps .refs)) k ≡ false
   calm : SettledFrom t (at .stamps) settled
 
 abbrev Inv-loop : tie.InvT-loop
-Inv-loop timing bytes stamps₀ first₀ clock₀ until settled stamps first clock =
+Inv-loop timing bytes stamps₀ first₀ clock₀ end settled stamps first clock =
     Skimming timing bytes (record { clock = clock₀; first = first₀; stamps = stamps₀ })
-    (record { clock = clock; first = first; stamps = stamps }) until settled
+    (record { clock = clock; first = first; stamps = stamps }) end settled
 
 abbrev μ-loop : tie.MeasureT-loop
-μ-loop timing bytes stamps₀ first₀ clock₀ until settled stamps first clock = length bytes / 4 - clock
+μ-loop timing bytes stamps₀ first₀ clock₀ end settled stamps first clock = end - clock
 
 -- where a turn starts
 module _ (l : tie.At-loop Inv-loop μ-loop) where
@@ -55,11 +55,14 @@ module _ (c : tie.After-word-at Inv-loop μ-loop) where
   low : place from .clock < 16777216
   low = omega arith
 
+  listed : place from .clock < length (bytes from) / 4
+  listed = omega (arith, from .before .before .in-time .ensures .0)
+
   inside : place from .clock < length (wordsOf (bytes from))
-  inside = rw (words-length (bytes from)) (c .before .loop-test .taken)
+  inside = rw (words-length (bytes from)) listed
 
   word : c .word-at .result ≡ getD (wordsOf (bytes from)) (place from .clock) 0
-  word = c .word-at .ensures ∙ word-listed (bytes from) (place from .clock) (c .before .loop-test .taken)
+  word = c .word-at .ensures ∙ word-listed (bytes from) (place from .clock) listed
 
 -- rules 1 to 3 there, and rules 6, 9 and 10
 early : (c : tie.Else1 Inv-loop μ-loop) → let p = place (from (c .before)) in
@@ -67,8 +70,8 @@ early : (c : tie.Else1 Inv-loop μ-loop) → let p = place (from (c .before)) in
 early c =
     let l = from (c .before) in
     let p = place l in
-    early-by (deadline (timing l .refi) (p .stamps .refs)) (p .clock) (c .before .word-at .result) (l .before .before .due .result)
-    (not-false _ (c .if1 .left)) (l .loop .inv .due)
+    early-kept (deadline (timing l .refi) (p .stamps .refs)) (p .clock) (c .before .word-at .result) (c .if1 .left)
+    (l .loop .inv .due (p .clock) (c .before .before .loop-test .taken))
 
 calm : (c : tie.Else3 Inv-loop μ-loop) → let l = from (c .before .before .before .before) in
     Settled (timing l) (place l .stamps) (place l .clock)
@@ -109,8 +112,8 @@ figures-requires c κs = search needs
 deadline-requires : tie.Need-deadline-requires Inv-loop μ-loop
 deadline-requires c κs = search needs
 
-due-requires : tie.Need-due-requires Inv-loop μ-loop
-due-requires c κs = search needs
+in-time-requires : tie.Need-in-time-requires Inv-loop μ-loop
+in-time-requires c κs = search needs
 
 settled-from-requires : tie.Need-settled-from-requires Inv-loop μ-loop
 settled-from-requires c κs = search needs
@@ -120,7 +123,7 @@ loop-holds c =
     record {
       fits = search needs;
       passed = none;
-      due = rw (c .before .before .deadline .ensures, c .before .before .before .before .figures .ensures) at (c .before .due .ensures);
+      due = rw (c .before .before .deadline .ensures, c .before .before .before .before .figures .ensures) at (c .before .in-time .ensures .1);
       calm = c .settled-from .ensures;
     }
 
@@ -132,9 +135,6 @@ cast-word-at c = search needs
 
 word-at-requires : tie.Need-word-at-requires Inv-loop μ-loop
 word-at-requires c κs = search needs
-
-cast-sound : tie.Need-cast-sound Inv-loop μ-loop
-cast-sound c = search needs
 
 high-requires : tie.Need-high-requires Inv-loop μ-loop
 high-requires c κs = search needs
@@ -168,11 +168,11 @@ cast-if3 c = search needs
 cast-bank : tie.Need-cast-bank Inv-loop μ-loop
 cast-bank c = search needs
 
-mul-stamps : tie.Need-mul-stamps Inv-loop μ-loop
-mul-stamps c = search needs
+mul-choose : tie.Need-mul-choose Inv-loop μ-loop
+mul-choose c = search needs
 
-element-copy-out-stamps : tie.Need-element-copy-out-stamps Inv-loop μ-loop
-element-copy-out-stamps c = search needs
+element-copy-out-choose : tie.Need-element-copy-out-choose Inv-loop μ-loop
+element-copy-out-choose c = search needs
 
 clear-requires : tie.Need-clear-requires Inv-loop μ-loop
 clear-requires c κs = search needs
@@ -180,8 +180,8 @@ clear-requires c κs = search needs
 high-requires-2 : tie.Need-high-requires-2 Inv-loop μ-loop
 high-requires-2 c κs = search needs
 
-mul-stamps-2 : tie.Need-mul-stamps-2 Inv-loop μ-loop
-mul-stamps-2 c = search needs
+mul-stamps : tie.Need-mul-stamps Inv-loop μ-loop
+mul-stamps c = search needs
 
 element-write-stamps : tie.Need-element-write-stamps Inv-loop μ-loop
 element-write-stamps c = search needs
@@ -233,13 +233,12 @@ skimmed-spec =
     μ-loop
     figures-requires
     deadline-requires
-    due-requires
+    in-time-requires
     settled-from-requires
     loop-holds
     cast-loop
     cast-word-at
     word-at-requires
-    cast-sound
     high-requires
     next-first-requires
     add-past-desl
@@ -248,11 +247,11 @@ skimmed-spec =
     loop-again
     cast-if3
     cast-bank
-    mul-stamps
-    element-copy-out-stamps
+    mul-choose
+    element-copy-out-choose
     clear-requires
     high-requires-2
-    mul-stamps-2
+    mul-stamps
     element-write-stamps
     choose-requires
     choose-requires-2
