@@ -1,7 +1,7 @@
 -- The number of each refusal.
 use Prim.Native.Nat.{ℕ}
 use Rattle.basics.specs.declared.refusal.Refusal.{Refusal}
-use Rattle.basics.specs.declared.refusal.Refusal.the-variants.{State, Part, Period, Count, InBreach, ClockLimit, InputSize, Field, QueueFull, NotAPair, PartialWord, TooLong, ShortRefresh}
+use Rattle.basics.specs.declared.refusal.Refusal.the-variants.{State, Part, Period, Count, InBreach, ClockLimit, InputSize, Field, QueueFull, NotAPair, PartialWord, TooLong, ShortRefresh, Wiring}
 
 -- the number behind the dot in section 6 of RULES
 abbrev pub refusalNumber : Refusal → ℕ
@@ -18,3 +18,4 @@ refusalNumber NotAPair = 28
 refusalNumber PartialWord = 29
 refusalNumber TooLong = 30
 refusalNumber ShortRefresh = 33
+refusalNumber Wiring = 34

@@ -29,6 +29,8 @@ pub enum Refusal {
     TooLong,
     // REFC below 18 at CL 4: 33.
     ShortRefresh,
+    // A wiring other than 4 or 8: 34.
+    Wiring,
 }
 
 impl Refusal {
@@ -50,6 +52,7 @@ impl Refusal {
             Refusal::PartialWord => 29,
             Refusal::TooLong => 30,
             Refusal::ShortRefresh => 33,
+            Refusal::Wiring => 34,
         }
     }
 }

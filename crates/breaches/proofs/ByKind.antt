@@ -16,7 +16,7 @@ module _ (t : Timing) (s : Timestamps) (k first second : ℕ) where
   pub at-lal : {b5 b6 b7 b8 b9 b10 : Bool} → lal second ≡ true
       → b5 ≡ laneReserved t first second
       → b6 ≡ notReady (s .extended) (s .regular) (getD (s .refs) 1 0) k
-      → b7 ≡ near k (bankStamp s first) (t .rc + 0)
+      → b7 ≡ near k (bankStamp (t .four) s first) (t .rc + 0)
       → b8 ≡ tooClose (rda first) true t (s .read) (s .write) k
       → b9 ≡ near k (s .mode) (t .rsc + 0)
       → b10 ≡ near k (getD (s .refs) 0 0) (t .refc + 0)

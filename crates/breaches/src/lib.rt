@@ -1,6 +1,6 @@
 // The rules as tests of what is kept of the past: rules 4 to 12 at a closing word, and all of them at any word.
 use basics::choose;
-use command::pins::BA0;
+use command::address::bank;
 use command::pins::CS;
 use command::pins::FN;
 use command::pins::high;
@@ -62,7 +62,7 @@ fn access_breach(timing: Timing, stamps: Timestamps, clock: u32, first: u32, sec
     let rda = high(first, FN);
     let banks = stamps.banks;
     let refs = stamps.refs;
-    let bank = (first / BA0 % 8) as usize;
+    let bank = bank(figures.four, first) as usize;
     let reserved = reading::lane_reserved(timing, first, second);
     let unready = unready(stamps.extended, stamps.regular, refs[1], clock);
     let same_bank = near(clock, banks[bank], figures.rc, 0);

@@ -19,11 +19,11 @@ ghost use Rattle.bulk.specs.Numbers.{sheetOf, checkNumber, walkNumber};
 ghost use Rattle.bulk.specs.Walks.{walkOf, againOf};
 ghost use Rattle.bulk.specs.Stored.{stored};
 
-// The configuration that the ten numbers of a sheet make.
-fn config_of(sheet: &[u32; 10]) -> Config
+// The configuration that the eleven numbers of a sheet make.
+fn config_of(sheet: &[u32; 11]) -> Config
     ensures { λ r. ⌜ r ≡ sheetOf (now (sheet .entry)) ⌝ }
 {
-    Config::from_numbers(
+    Config::wired(
         sheet[0],
         sheet[1],
         sheet[2],
@@ -34,12 +34,13 @@ fn config_of(sheet: &[u32; 10]) -> Config
         sheet[7],
         sheet[8],
         sheet[9],
+        sheet[10],
     )
 }
 
 // The whole check.
 #[no_mangle]
-pub extern "C" fn bulk_check(sheet: &[u32; 10], words: &[u32]) -> u64
+pub extern "C" fn bulk_check(sheet: &[u32; 11], words: &[u32]) -> u64
     ensures { λ r. ⌜ r ≡ checkNumber (checkOf (sheetOf (now (sheet .entry))) (now (words .entry))) ⌝ }
 {
     of_verdict(wordcheck::check(config_of(sheet), words))
@@ -47,7 +48,7 @@ pub extern "C" fn bulk_check(sheet: &[u32; 10], words: &[u32]) -> u64
 
 // A fresh walk, advanced until it does not pass: the answer that it stops with.
 #[no_mangle]
-pub extern "C" fn bulk_walk(sheet: &[u32; 10], words: &[u32]) -> u64
+pub extern "C" fn bulk_walk(sheet: &[u32; 11], words: &[u32]) -> u64
     ensures { λ r. ⌜ r ≡ walkNumber (walkOf (sheetOf (now (sheet .entry))) (now (words .entry)) .outcome) ⌝ }
 {
     let stopped = walk(config_of(sheet), words);
@@ -57,7 +58,7 @@ pub extern "C" fn bulk_walk(sheet: &[u32; 10], words: &[u32]) -> u64
 
 // The same walk, and then the answer of one advance more.
 #[no_mangle]
-pub extern "C" fn bulk_walk_again(sheet: &[u32; 10], words: &[u32]) -> u64
+pub extern "C" fn bulk_walk_again(sheet: &[u32; 11], words: &[u32]) -> u64
     ensures { λ r. ⌜ r ≡ walkNumber (againOf (sheetOf (now (sheet .entry))) (now (words .entry))) ⌝ }
 {
     let stopped = walk(config_of(sheet), words);

@@ -2,7 +2,7 @@
 -- kept goes on past any number of them. Assumes nothing.
 use Prim.Native.Nat.{ℕ, _+_, _/_, _^_, _≤_, _<_}
 use mathlib.Core.Path.{_≡_, refl, sym, _∙_, ap}
-use mathlib.Core.Bool.{true, false, not, cond, and-false}
+use mathlib.Core.Bool.{Bool, true, false, not, cond, and-false}
 use mathlib.Core.List.{List}
 use native.Mathlib.Omega.{arith}
 use borrow.Author.Tests.{le-ltb, lt-leb}
@@ -11,9 +11,9 @@ use lib.Dec.{eqb}
 use Rattle.config.specs.declared.Timing.{Timing}
 use Rattle.command.specs.Pins.{high}
 use Rattle.command.specs.Pairs.{rda}
-use Rattle.command.specs.Pairs.{bankOf}
+use Rattle.command.specs.Address.{bankOf}
 use Rattle.stamps.specs.Stamps.{nextFirst}
-use Rattle.rules.specs.Breaches.{near, deadline, overdue, bankStamp, earlyBreach, closingBreach}
+use Rattle.rules.specs.Breaches.{near, deadline, overdue, earlyBreach, closingBreach}
 use Rattle.rules.specs.Verdict.{Judgement}
 use Rattle.stamps.specs.declared.Timestamps.{Timestamps}
 use Rattle.breaches.proofs.ByKind.{at-lal}
@@ -32,24 +32,24 @@ far k c n h = rw (le-ltb k (c + n) h) (and-false (not (eqb c 0)))
 pub early-kept : (last k w : ℕ) → w / 2 ^ 19 ≡ 1 → overdue last k ≡ false → earlyBreach last k w ≡ 0
 early-kept last k w e due = rw (lt-leb (2 ^ 20) w (omega arith), e, due)
 
--- what rules 7 and 8 compare the pair of this first word with
+-- what rules 7 and 8 compare a pair of this bank with
 abbrev recentOf : Timestamps → ℕ → Recent
-recentOf s first = record { bank = bankStamp s first; read = s .read; write = s .write }
+recentOf s bank = record { bank = getD (s .banks) bank 0; read = s .read; write = s .write }
 
 -- a LAL word that keeps rules 5, 7 and 8, where rules 6, 9 and 10 are kept
-lal-kept : (t : Timing) (s : Timestamps) (k first w : ℕ) → Settled t s k → Clear t (recentOf s first) k first w
-    → closingBreach t s k first w ≡ 0
-lal-kept t s k first w settled clear =
+lal-kept : (t : Timing) (s : Timestamps) (k first w : ℕ) {bank : ℕ} → bank ≡ bankOf (t .four) first → Settled t s k
+    → Clear t (recentOf s bank) k first w → closingBreach t s k first w ≡ 0
+lal-kept t s k first w of-bank settled clear =
     sym
     (at-lal t s k first w (clear .isLal) (sym (clear .unreserved)) (sym (settled .ready))
-    (rw (← no-more (t .rc)) at (sym (clear .rested)))
+    (rw (of-bank, ← no-more (t .rc)) at (sym (clear .rested)))
     (sym (clear .spaced))
     (rw (← no-more (t .rsc)) at (sym (settled .afterMode)))
     (rw (← no-more (t .refc)) at (sym (settled .afterRefresh))))
 
--- the place after the LAL word of a read or write, with these last ones
-abbrev pub accessed : Place → ℕ → ℕ → Place
-accessed p read write =
+-- the place after the LAL word of a read or write of a bank, with these last ones
+abbrev pub accessed : ℕ → Place → ℕ → ℕ → Place
+accessed bank p read write =
     let s = p .stamps in
     record {
       clock = p .clock + 1;
@@ -61,7 +61,7 @@ accessed p read write =
             mode = s .mode;
             read = read;
             write = write;
-            banks = set (s .banks) (bankOf (p .first)) (p .clock);
+            banks = set (s .banks) bank (p .clock);
             refs = s .refs;
           };
     }
@@ -78,15 +78,15 @@ module _ (t : Timing) (ws : List ℕ) (p : Place) {w : ℕ} (inside : p .clock <
         leads = rw (opened, ← word, idle);
       }
 
-  pub access-passes : high 18 (p .first) ≡ false → Settled t (p .stamps) (p .clock)
-      → Clear t (recentOf (p .stamps) (p .first)) (p .clock) (p .first) w
+  pub access-passes : high 18 (p .first) ≡ false → {bank : ℕ} → bank ≡ bankOf (t .four) (p .first) → Settled t (p .stamps) (p .clock)
+      → Clear t (recentOf (p .stamps) bank) (p .clock) (p .first) w
       → {read write : ℕ} → read ≡ cond {A = ℕ} (rda (p .first)) (p .clock) (p .stamps .read)
-      → write ≡ cond {A = ℕ} (rda (p .first)) (p .stamps .write) (p .clock) → Passes t ws p (accessed p read write)
-  access-passes opened settled clear read write =
+      → write ≡ cond {A = ℕ} (rda (p .first)) (p .stamps .write) (p .clock) → Passes t ws p (accessed bank p read write)
+  access-passes opened of-bank settled clear read write =
       record {
         inside = inside;
-        sound = rw (← word, early, opened, lal-kept t (p .stamps) (p .clock) (p .first) w settled clear);
-        leads = rw (read, write, ← word, opened, clear .isLal);
+        sound = rw (← word, early, opened, lal-kept t (p .stamps) (p .clock) (p .first) w of-bank settled clear);
+        leads = rw (of-bank, read, write, ← word, opened, clear .isLal);
       }
 
 -- a DESL word that rule 3 allows

@@ -2,6 +2,7 @@
 use Prim.Native.Nat.{ℕ, _+_, _<_}
 use mathlib.Core.List.{List}
 use mathlib.Core.Path.{_≡_}
+use mathlib.Core.Bool.{Bool}
 use lib.ListN.{length, getD}
 use Rattle.config.specs.declared.Timing.{Timing}
 use Rattle.stamps.specs.Stamps.{nextStamps, nextFirst, never}
@@ -12,20 +13,20 @@ use Rattle.bytecheck.specs.declared.place.Place.{Place}
 abbrev pub start : Place
 start = record { clock = 0; first = 0xC0000; stamps = never }
 
--- after a word
-abbrev pub next : Place → ℕ → Place
-next p w =
+-- after a word, with four banks (true) or eight
+abbrev pub next : Bool → Place → ℕ → Place
+next four p w =
     record {
       clock = p .clock + 1;
       first = nextFirst (p .first) w;
-      stamps = nextStamps (p .stamps) (p .clock) (p .first) w;
+      stamps = nextStamps four (p .stamps) (p .clock) (p .first) w;
     }
 
 -- the word at place p is there, breaches nothing, and leads to q
 pub record Passes (t : Timing) (words : List ℕ) (p q : Place) : Type 0 where
   pub inside : p .clock < length words
   pub sound : wordBreach t (p .stamps) (p .clock) (p .first) (getD words (p .clock) 0) ≡ 0
-  pub leads : q ≡ next p (getD words (p .clock) 0)
+  pub leads : q ≡ next (t .four) p (getD words (p .clock) 0)
 
 -- any number of such words, none included
 pub data Passed (t : Timing) (words : List ℕ) : Place → Place → Type 0 where

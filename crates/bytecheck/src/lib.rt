@@ -25,6 +25,7 @@ fn judged_bytes(timing: Timing, bytes: &[u8]) -> Verdict
     requires { ⌜ length (now bytes) / 4 ≤ 16777216 ⌝ }
     ensures { λ r. ⌜ verdictOutcome r ≡ value (judge timing (wordsOf (now (bytes .entry)))) ⌝ }
 {
+    let figures = timing.figures();
     let mut place = Place::start();
     while (place.clock as usize) < bytes.len() / 4 {
         place = skimmed(timing, bytes, place);
@@ -37,7 +38,7 @@ fn judged_bytes(timing: Timing, bytes: &[u8]) -> Verdict
         if number != 0 {
             return Verdict::InBreach(Breach { clock, number });
         }
-        place = place.after(word);
+        place = place.after(figures.four, word);
     }
     Verdict::Accepted
 }

@@ -26,10 +26,10 @@ impl Place {
         }
     }
 
-    // After the word that stands here.
-    pub(crate) fn after(self, word: u32) -> Place
+    // After the word that stands here, with four banks or eight.
+    pub(crate) fn after(self, four: bool, word: u32) -> Place
         requires { ⌜ self .clock < 16777216 ⌝ }
-        ensures { λ r. ⌜ r ≡ next self word ⌝ }
+        ensures { λ r. ⌜ r ≡ next four self word ⌝ }
     {
         let stamps = self.stamps;
         let clock = self.clock;
@@ -37,7 +37,7 @@ impl Place {
         Place {
             clock: clock + 1,
             first: next_first(first, word),
-            stamps: stamps.after(clock, first, word),
+            stamps: stamps.after(four, clock, first, word),
         }
     }
 }

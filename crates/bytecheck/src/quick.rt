@@ -1,7 +1,7 @@
 // A quick look: what is true only of words that breach nothing, by a few comparisons. It is there for speed.
 use crate::place::Place;
 use basics::choose;
-use command::pins::BA0;
+use command::address::bank;
 use command::pins::CS;
 use command::pins::FN;
 use command::pins::PD;
@@ -139,7 +139,7 @@ pub(crate) fn skimmed(timing: Timing, bytes: &[u8], from: Place) -> Place
         if (clock as u64) < settled {
             break;
         }
-        let bank = (first / BA0 % 8) as usize;
+        let bank = bank(figures.four, first) as usize;
         let recent = Recent {
             bank: stamps.banks[bank],
             read: stamps.read,

@@ -51,6 +51,7 @@ withPeriod p =
       wrd = institute .wrd;
       rsc = institute .rsc;
       refc = institute .refc;
+      wiring = institute .wiring;
     }
 
 -- the number of a refusal, or 0

@@ -1,7 +1,7 @@
 -- Which words open a pair, and what the pair of two words is (RULES 2.2).
 use Prim.Native.Nat.{ℕ}
 use mathlib.Core.Bool.{Bool, not, _&&_}
-use Rattle.command.specs.Pins.{pins, high}
+use Rattle.command.specs.Pins.{high}
 
 -- CS is low: where no pair is open, the word opens one
 abbrev pub opens : ℕ → Bool
@@ -30,7 +30,3 @@ isMode first second = rda first && not (lal second)
 -- WRA and REF
 abbrev pub isRefresh : ℕ → ℕ → Bool
 isRefresh first second = not (rda first) && not (lal second)
-
--- the bank on the first word of a read or a write (RULES 2.3)
-abbrev pub bankOf : ℕ → ℕ
-bankOf first = pins 14 3 first

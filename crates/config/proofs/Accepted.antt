@@ -3,14 +3,16 @@ use Prim.Native.Nat.{ℕ, _<_}
 use mathlib.Core.Path.{_≡_}
 use mathlib.Core.Bool.{true}
 use native.Mathlib.Omega.{arith}
+use lib.Dec.{eqb}
 use Rattle.basics.specs.Outcome.{Outcome, value, given}
-use Rattle.config.specs.Configuration.{partFits, periodFits, countsFit, refreshFits, derived, timingOf}
+use Rattle.config.specs.Configuration.{partFits, wiringFits, periodFits, countsFit, refreshFits, derived, timingOf}
 use Rattle.config.specs.declared.Config.{Config}
 use Rattle.config.specs.declared.Timing.{Timing}
 use Rattle.basics.proofs.Outcomes.{require-value, given-value, Not, value-not, require-not}
 
 pub record Accepted (c : Config) : Type 0 where
   pub part : partFits c ≡ true
+  pub wiring : wiringFits c ≡ true
   pub period : periodFits c ≡ true
   pub counts : countsFit c ≡ true
   pub refresh : refreshFits c ≡ true
@@ -18,13 +20,18 @@ pub record Accepted (c : Config) : Type 0 where
 pub accepted : (c : Config) (t : Timing) → timingOf c ≡ value t → Accepted c × (derived c ≡ t)
 accepted c t e =
     let h₁ = require-value (partFits c) _ _ e in
-    let h₂ = require-value (periodFits c) _ _ (h₁ .1) in
-    let h₃ = require-value (countsFit c) _ _ (h₂ .1) in
-    let h₄ = require-value (refreshFits c) _ _ (h₃ .1) in
-    (record { part = h₁ .0; period = h₂ .0; counts = h₃ .0; refresh = h₄ .0 }, cc (h₄ .1))
+    let h₂ = require-value (wiringFits c) _ _ (h₁ .1) in
+    let h₃ = require-value (periodFits c) _ _ (h₂ .1) in
+    let h₄ = require-value (countsFit c) _ _ (h₃ .1) in
+    let h₅ = require-value (refreshFits c) _ _ (h₄ .1) in
+    (record { part = h₁ .0; wiring = h₂ .0; period = h₃ .0; counts = h₄ .0; refresh = h₅ .0 }, cc (h₅ .1))
+
+-- the timing has its configuration's wiring
+pub wired : (c : Config) (t : Timing) → timingOf c ≡ value t → t .four ≡ eqb (c .wiring) 4
+wired c t e = rw (← accepted c t e .1)
 
 pub timing-is : (c : Config) → Accepted c → timingOf c ≡ value (derived c)
-timing-is c a = rw (a .part, a .period, a .counts, a .refresh)
+timing-is c a = rw (a .part, a .wiring, a .period, a .counts, a .refresh)
 
 -- what such a call came to, at the derived timing
 pub behind : {B : Type 0} (c : Config) (f : Timing → Outcome B) {b : B} → given (timingOf c) f ≡ value b → Accepted c × (f (derived c) ≡ value b)
@@ -33,18 +40,19 @@ behind c f e =
     let a = accepted c (g .0) (g .1) in
     (a .0, rw (a .1) (g .2))
 
--- a configuration is refused by these four numbers alone
-config-not : (c : Config) (n : ℕ) → (20 ≡ n → ⊥) → (21 ≡ n → ⊥) → (22 ≡ n → ⊥) → (33 ≡ n → ⊥) → Not n (timingOf c)
-config-not c n not-20 not-21 not-22 not-33 =
+-- a configuration is refused by these five numbers alone
+config-not : (c : Config) (n : ℕ) → (20 ≡ n → ⊥) → (34 ≡ n → ⊥) → (21 ≡ n → ⊥) → (22 ≡ n → ⊥) → (33 ≡ n → ⊥) → Not n (timingOf c)
+config-not c n not-20 not-34 not-21 not-22 not-33 =
     require-not (partFits c) 20 n _ not-20
+    (require-not (wiringFits c) 34 n _ not-34
     (require-not (periodFits c) 21 n _ not-21
     (require-not (countsFit c) 22 n _ not-22
-    (require-not (refreshFits c) 33 n _ not-33 (value-not n _))))
+    (require-not (refreshFits c) 33 n _ not-33 (value-not n _)))))
 
 -- so not by 19
 pub config-19 : (c : Config) → Not 19 (timingOf c)
-config-19 c = config-not c 19 (λ e. omega arith) (λ e. omega arith) (λ e. omega arith) (λ e. omega arith)
+config-19 c = config-not c 19 (λ e. omega arith) (λ e. omega arith) (λ e. omega arith) (λ e. omega arith) (λ e. omega arith)
 
 -- nor by a number between 22 and 33
 pub config-between : (c : Config) (n : ℕ) → 22 < n → n < 33 → Not n (timingOf c)
-config-between c n low high = config-not c n (λ e. omega arith) (λ e. omega arith) (λ e. omega arith) (λ e. omega arith)
+config-between c n low high = config-not c n (λ e. omega arith) (λ e. omega arith) (λ e. omega arith) (λ e. omega arith) (λ e. omega arith)

@@ -21,6 +21,10 @@ within low high n = leb low n && leb n high
 abbrev pub partFits : Config → Bool
 partFits c = oneOf 37 50 (c .grade) && within 3 5 (c .cl) && oneOf 2 4 (c .bl) && oneOf 16 8 (c .organisation)
 
+-- the wiring is of eight banks or of four (RULES 1.6)
+abbrev pub wiringFits : Config → Bool
+wiringFits c = oneOf 8 4 (c .wiring)
+
 -- the least periods in picoseconds (RULES 1.2): a row for each grade, a column for each CL
 abbrev pub leastPeriods : List (List ℕ)
 leastPeriods = (5500 ∷ 4500 ∷ 3750 ∷ []) ∷ (6000 ∷ 5500 ∷ 5000 ∷ []) ∷ []
@@ -58,13 +62,14 @@ rcOf cl = cond (eqb cl 5) 6 5
 abbrev pub spacingOf : ℕ → ℕ → ℕ → ℕ → ℕ
 spacingOf rc rbd rwd wrd = max (max rc rbd) (max (rwd + 1) (wrd + 1))
 
--- the figures of a sheet (RULES 1.3): wl is WL, refi D, window W and spacing S
+-- the figures of a sheet (RULES 1.3): wl is WL, refi D, window W and spacing S; and whether it is wired for four banks
 abbrev pub derived : Config → Timing
 derived c =
     record {
       cl = c .cl;
       bl = c .bl;
       organisation = c .organisation;
+      four = eqb (c .wiring) 4;
       rbd = c .rbd .0;
       rwd = c .rwd .0;
       wrd = c .wrd .0;
@@ -84,6 +89,7 @@ figuresOf t =
       cl = t .cl;
       bl = t .bl;
       organisation = t .organisation;
+      four = t .four;
       rbd = t .rbd;
       rwd = t .rwd;
       wrd = t .wrd;
@@ -96,13 +102,14 @@ figuresOf t =
       spacing = t .spacing;
     }
 
--- the figures of a sheet, or refusal 20, 21, 22 or 33, tried in this order (RULES 7.1)
+-- the figures of a sheet, or refusal 20, 34, 21, 22 or 33, tried in this order (RULES 7.1)
 abbrev pub timingOf : Config → Outcome Timing
 timingOf c =
     require (partFits c) 20
+    (require (wiringFits c) 34
     (require (periodFits c) 21
     (require (countsFit c) 22
-    (require (refreshFits c) 33 (value (derived c)))))
+    (require (refreshFits c) 33 (value (derived c))))))
 
 -- sheet E (RULES 1.4)
 abbrev pub institute : Config
@@ -118,11 +125,12 @@ institute =
       wrd = record { 0 = 1 };
       rsc = record { 0 = 7 };
       refc = record { 0 = 18 };
+      wiring = 8;
     }
 
--- the configuration that ten numbers make, in the order of RULES 1.1
-abbrev pub configOf : ℕ → ℕ → ℕ → ℕ → ℕ → ℕ → ℕ → ℕ → ℕ → ℕ → Config
-configOf grade cl bl organisation period rbd rwd wrd rsc refc =
+-- the configuration that eleven numbers make, in the order of RULES 1.1
+abbrev pub wiredOf : ℕ → ℕ → ℕ → ℕ → ℕ → ℕ → ℕ → ℕ → ℕ → ℕ → ℕ → Config
+wiredOf grade cl bl organisation period rbd rwd wrd rsc refc wiring =
     record {
       grade = grade;
       cl = cl;
@@ -134,4 +142,9 @@ configOf grade cl bl organisation period rbd rwd wrd rsc refc =
       wrd = record { 0 = wrd };
       rsc = record { 0 = rsc };
       refc = record { 0 = refc };
+      wiring = wiring;
     }
+
+-- the configuration that the first ten make: without its wiring a sheet has eight banks (RULES 1.6)
+abbrev pub configOf : ℕ → ℕ → ℕ → ℕ → ℕ → ℕ → ℕ → ℕ → ℕ → ℕ → Config
+configOf grade cl bl organisation period rbd rwd wrd rsc refc = wiredOf grade cl bl organisation period rbd rwd wrd rsc refc 8

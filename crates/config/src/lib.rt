@@ -5,7 +5,7 @@ use basics::Refusal;
 use basics::choose;
 ghost use mathlib.Core.Path.{_≡_};
 ghost use Prim.Native.Nat.{_≤_, _<_, max};
-ghost use Rattle.config.specs.Configuration.{leastPeriod, partFits, periodFits, countsFit, refreshFits, derived, timingOf, institute, configOf};
+ghost use Rattle.config.specs.Configuration.{leastPeriod, partFits, wiringFits, periodFits, countsFit, refreshFits, derived, timingOf, institute, wiredOf, configOf};
 ghost use Rattle.config.specs.Answers.{timingOutcome};
 
 // A time in whole picoseconds: a type of its own, so that it is never taken for a count of clocks.
@@ -26,6 +26,8 @@ pub struct Config {
     pub wrd: Clocks,
     pub rsc: Clocks,
     pub refc: Clocks,
+    // The banks that the board drives: 8, or 4 where BA2 is driven as A14.
+    pub wiring: u32,
 }
 
 // What an accepted configuration yields; nothing but `Config::timing` makes one. Every spacing is in clocks.
@@ -33,6 +35,8 @@ pub struct Timing {
     cl: u32,
     bl: u32,
     organisation: u32,
+    // The wiring: of four banks, or of eight.
+    four: bool,
     rbd: u32,
     rwd: u32,
     wrd: u32,
@@ -90,10 +94,42 @@ impl Config {
             wrd: Clocks(1),
             rsc: Clocks(7),
             refc: Clocks(18),
+            wiring: 8,
         }
     }
 
-    // The configuration that ten numbers make.
+    // The configuration that eleven numbers make.
+    pub fn wired(
+        grade: u32,
+        cl: u32,
+        bl: u32,
+        organisation: u32,
+        period: u32,
+        rbd: u32,
+        rwd: u32,
+        wrd: u32,
+        rsc: u32,
+        refc: u32,
+        wiring: u32,
+    ) -> Config
+        ensures { λ r. ⌜ r ≡ wiredOf grade cl bl organisation period rbd rwd wrd rsc refc wiring ⌝ }
+    {
+        Config {
+            grade,
+            cl,
+            bl,
+            organisation,
+            period: Picoseconds(period),
+            rbd: Clocks(rbd),
+            rwd: Clocks(rwd),
+            wrd: Clocks(wrd),
+            rsc: Clocks(rsc),
+            refc: Clocks(refc),
+            wiring,
+        }
+    }
+
+    // The configuration that ten numbers make, as they were stored before there was a wiring: it has eight banks.
     pub fn from_numbers(
         grade: u32,
         cl: u32,
@@ -108,18 +144,19 @@ impl Config {
     ) -> Config
         ensures { λ r. ⌜ r ≡ configOf grade cl bl organisation period rbd rwd wrd rsc refc ⌝ }
     {
-        Config {
+        Config::wired(
             grade,
             cl,
             bl,
             organisation,
-            period: Picoseconds(period),
-            rbd: Clocks(rbd),
-            rwd: Clocks(rwd),
-            wrd: Clocks(wrd),
-            rsc: Clocks(rsc),
-            refc: Clocks(refc),
-        }
+            period,
+            rbd,
+            rwd,
+            wrd,
+            rsc,
+            refc,
+            8,
+        )
     }
 
     fn part_fits(self) -> bool
@@ -129,6 +166,12 @@ impl Config {
             & ((3 <= self.cl) & (self.cl <= 5))
             & ((self.bl == 2) | (self.bl == 4))
             & ((self.organisation == 16) | (self.organisation == 8))
+    }
+
+    fn wiring_fits(self) -> bool
+        ensures { λ r. ⌜ r ≡ wiringFits self ⌝ }
+    {
+        (self.wiring == 8) | (self.wiring == 4)
     }
 
     fn period_fits(self) -> bool
@@ -160,6 +203,8 @@ impl Config {
         requires { ⌜ (self .rwd .0 ≤ 7) × (self .wrd .0 ≤ 7) ⌝ }
         ensures { λ r. ⌜ r ≡ derived self ⌝ }
     {
+        let refi = 3900000 / self.period.0;
+        let window = 3200000 / self.period.0 + 1;
         let cycle = choose(self.cl == 5, 6, 5);
         let turnaround = larger(self.rwd.0 + 1, self.wrd.0 + 1);
         let spacing = larger(larger(cycle, self.rbd.0), turnaround);
@@ -167,6 +212,7 @@ impl Config {
             cl: self.cl,
             bl: self.bl,
             organisation: self.organisation,
+            four: self.wiring == 4,
             rbd: self.rbd.0,
             rwd: self.rwd.0,
             wrd: self.wrd.0,
@@ -174,18 +220,21 @@ impl Config {
             refc: self.refc.0,
             rc: cycle,
             wl: self.cl - 1,
-            refi: 3900000 / self.period.0,
-            window: 3200000 / self.period.0 + 1,
+            refi,
+            window,
             spacing,
         }
     }
 
-    // The timing of an accepted configuration, or the refusal: 20, 21, 22 and 33, tried in this order.
+    // The timing of an accepted configuration, or the refusal: 20, 34, 21, 22 and 33, tried in this order.
     pub fn timing(self) -> TimingAnswer
         ensures { λ r. ⌜ timingOutcome r ≡ timingOf self ⌝ }
     {
         if !self.part_fits() {
             return TimingAnswer::Refused(Refusal::Part);
+        }
+        if !self.wiring_fits() {
+            return TimingAnswer::Refused(Refusal::Wiring);
         }
         if !self.period_fits() {
             return TimingAnswer::Refused(Refusal::Period);

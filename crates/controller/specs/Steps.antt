@@ -141,7 +141,7 @@ closing t s =
             config = s .config;
             clock = s .clock + 1;
             opened = Nothing;
-            stamps = remembered (s .stamps) (s .clock) (w .first) (w .second);
+            stamps = remembered (t .four) (s .stamps) (s .clock) (w .first) (w .second);
             waiting = cond (ofOldest (s .opened)) (movedUp (s .count) (s .waiting)) (s .waiting);
             count = cond (ofOldest (s .opened)) (s .count - 1) (s .count);
           };

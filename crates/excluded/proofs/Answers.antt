@@ -10,7 +10,7 @@ use Rattle.config.specs.Answers.{timingOutcome}
 use Rattle.config.specs.declared.Timing.{Timing}
 use Rattle.config.specs.declared.TimingAnswer.{TimingAnswer}
 use Rattle.basics.specs.declared.refusal.Refusal.{Refusal}
-use Rattle.basics.specs.declared.refusal.Refusal.the-variants.{State, Part, Period, Count, InBreach, ClockLimit, InputSize, Field, QueueFull, NotAPair, PartialWord, TooLong, ShortRefresh}
+use Rattle.basics.specs.declared.refusal.Refusal.the-variants.{State, Part, Period, Count, InBreach, ClockLimit, InputSize, Field, QueueFull, NotAPair, PartialWord, TooLong, ShortRefresh, Wiring}
 use Rattle.reading.specs.Answers.{readOutcome}
 use Rattle.writing.specs.Answers.{writeOutcome}
 use Rattle.command.specs.declared.operation.Operation.{Operation}
@@ -51,6 +51,7 @@ refusals =
     ∷ none
     ∷ none
     ∷ some ShortRefresh
+    ∷ some Wiring
     ∷ []
 
 abbrev named : ℕ → Option Refusal
@@ -70,6 +71,7 @@ named-is NotAPair = refl
 named-is PartialWord = refl
 named-is TooLong = refl
 named-is ShortRefresh = refl
+named-is Wiring = refl
 
 abbrev orState : Option Refusal → Refusal
 orState none = State

@@ -17,7 +17,7 @@ use Rattle.command.specs.declared.operation.Request.{Request}
 use Rattle.command.specs.declared.operation.Operation.the-variants.{Access}
 use Rattle.roundtrip.proofs.WrittenBack.{written-back}
 use Rattle.rules.specs.History.{ClosedPair}
-use Rattle.command.specs.Pairs.{bankOf}
+use Rattle.command.specs.Address.{bankOf}
 use Rattle.rules.specs.Rules.{closings, wasRead, wasWrite, wasRegular, wasRefresh}
 use Rattle.rules.specs.Breaches.{notReady}
 use Rattle.rules.proofs.Newest.{Ordered, latest, latest-cons}
@@ -32,25 +32,25 @@ use Rattle.model.proofs.InTime.{lastRef, Normal, in-time}
 use Rattle.model.proofs.Turn.{idle, closes-with-lal}
 
 -- the last access of a bank is no later than the last read or the last write
-bank-latest : (b k : ℕ) (ps : List ClosedPair) → Ordered k ps
-    → (latest (ofBank b) ps ≤ latest wasRead ps) ⊎ (latest (ofBank b) ps ≤ latest wasWrite ps)
-bank-latest b k [] o = inl (le-refl 0)
-bank-latest b k (p ∷ ps) o =
-    rw (latest-cons (ofBank b) p ps, latest-cons wasRead p ps, latest-cons wasWrite p ps)
-    (go (wasRead p) (wasWrite p) (eqb (bankOf (p .first)) b) (bank-latest b (p .start) ps (o .1)))
+bank-latest : (four : Bool) (b k : ℕ) (ps : List ClosedPair) → Ordered k ps
+    → (latest (ofBank four b) ps ≤ latest wasRead ps) ⊎ (latest (ofBank four b) ps ≤ latest wasWrite ps)
+bank-latest four b k [] o = inl (le-refl 0)
+bank-latest four b k (p ∷ ps) o =
+    rw (latest-cons (ofBank four b) p ps, latest-cons wasRead p ps, latest-cons wasWrite p ps)
+    (go (wasRead p) (wasWrite p) (eqb (bankOf four (p .first)) b) (bank-latest four b (p .start) ps (o .1)))
   where
-    bound : latest (ofBank b) ps ≤ p .start
-    bound = closing-bound (ofBank b) (p .start) ps (o .1) 0
+    bound : latest (ofBank four b) ps ≤ p .start
+    bound = closing-bound (ofBank four b) (p .start) ps (o .1) 0
 
-    upto : (x : Bool) → cond x (p .start + 1) (latest (ofBank b) ps) ≤ p .start + 1
+    upto : (x : Bool) → cond x (p .start + 1) (latest (ofBank four b) ps) ≤ p .start + 1
     upto true = le-refl (p .start + 1)
     upto false =
         let h = bound in
         omega arith
 
-    go : (r w q : Bool) → (latest (ofBank b) ps ≤ latest wasRead ps) ⊎ (latest (ofBank b) ps ≤ latest wasWrite ps)
-        → (cond ((r || w) && q) (p .start + 1) (latest (ofBank b) ps) ≤ cond r (p .start + 1) (latest wasRead ps))
-        ⊎ (cond ((r || w) && q) (p .start + 1) (latest (ofBank b) ps) ≤ cond w (p .start + 1) (latest wasWrite ps))
+    go : (r w q : Bool) → (latest (ofBank four b) ps ≤ latest wasRead ps) ⊎ (latest (ofBank four b) ps ≤ latest wasWrite ps)
+        → (cond ((r || w) && q) (p .start + 1) (latest (ofBank four b) ps) ≤ cond r (p .start + 1) (latest wasRead ps))
+        ⊎ (cond ((r || w) && q) (p .start + 1) (latest (ofBank four b) ps) ≤ cond w (p .start + 1) (latest wasWrite ps))
     go true w q older = inl (upto q)
     go false true q older = inr (upto q)
     go false false q older = older
@@ -63,7 +63,7 @@ module _ (t : Timing) (f : Figures t) (ps : List ClosedPair) (k : ℕ) (n : Norm
     pub write : latest wasWrite ps + t .spacing ≤ k + 1
     pub refresh : lastRef ps + t .refc ≤ k + 1
 
-  is-ready : 201 ≤ k → notReady (summary ps .extended) (summary ps .regular) (getD (summary ps .refs) 1 0) (k + 1) ≡ false
+  is-ready : 201 ≤ k → notReady (summary (t .four) ps .extended) (summary (t .four) ps .regular) (getD (summary (t .four) ps .refs) 1 0) (k + 1) ≡ false
   is-ready h =
       let g = n .ready .regular in
       let s = n .ready .second in
@@ -76,7 +76,7 @@ module _ (t : Timing) (f : Figures t) (ps : List ClosedPair) (k : ℕ) (n : Norm
     abbrev second : ℕ
     second = pairOf t (Access r) .second
 
-    access-free : Clear → AccessFree t (summary ps) (k + 1) first second
+    access-free : Clear → AccessFree t (summary (t .four) ps) (k + 1) first second
     access-free c =
         let w = written-back t (f .bl) (f .cl) (Access r) fits in
         let read = c .read in
@@ -92,8 +92,8 @@ module _ (t : Timing) (f : Figures t) (ps : List ClosedPair) (k : ℕ) (n : Norm
           lal = closes-with-lal t f (Access r) fits;
           ready = is-ready ready;
           bank =
-              rw (get-bank (λ b. latest (ofBank b) ps) (bankOf first) (bank-bound first))
-              (inr (⊎-elim (λ h. omega arith) (λ h. omega arith) (bank-latest (bankOf first) k ps (n .ordered))));
+              rw (get-bank (λ b. latest (ofBank (t .four) b) ps) (bankOf (t .four) first) (bank-bound (t .four) first))
+              (inr (⊎-elim (λ h. omega arith) (λ h. omega arith) (bank-latest (t .four) (bankOf (t .four) first) k ps (n .ordered))));
           read = inr (omega arith);
           write = inr (omega arith);
           turn-write = inr (omega arith);
@@ -108,4 +108,4 @@ module _ (t : Timing) (f : Figures t) (ps : List ClosedPair) (k : ℕ) (n : Norm
         let w = sound-tests t first second (a .sound) in
         let before = ordered-mono k (k + 1 - 1) (omega arith) ps (n .ordered) in
         rw
-        (breach-is t none k ps first (n .ordered), sound-first t (summary ps) k first second (in-time t f ps k n k (omega arith)) (a .sound), w .cs, breach-is t (some first) (k + 1) ps second (omega arith, before, rw (w .cs)), access-closes t (summary ps) (k + 1) first second (in-time t f ps k n (k + 1) (le-refl (k + 1))) a)
+        (breach-is t none k ps first (n .ordered), sound-first t (summary (t .four) ps) k first second (in-time t f ps k n k (omega arith)) (a .sound), w .cs, breach-is t (some first) (k + 1) ps second (omega arith, before, rw (w .cs)), access-closes t (summary (t .four) ps) (k + 1) first second (in-time t f ps k n (k + 1) (le-refl (k + 1))) a)

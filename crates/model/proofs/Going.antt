@@ -97,7 +97,7 @@ module _ (t : Timing) (f : Figures t) where
     pub order : requestsOf t (a .after .past .pairs) ++ a .after .waiting ≡ requestsOf t (c .past .pairs) ++ c .waiting
     pub met : (all : List ℕ) → Met (firstsOf c) all Bs → Met (firstsOf (a .after)) all left
 
-  phase-in-time : (ps : List ClosedPair) (k : ℕ) → Phase t f ps k → InTime t (summary ps) k
+  phase-in-time : (ps : List ClosedPair) (k : ℕ) → Phase t f ps k → InTime t (summary (t .four) ps) k
   phase-in-time ps k (begin e z) = rw e
   phase-in-time ps k (after-extended e low high) = rw e
   phase-in-time ps k (after-regular g early late e low high) = rw e
@@ -108,7 +108,7 @@ module _ (t : Timing) (f : Figures t) where
       rw is (by-gaps t (pairAt t e Refresh ∷ modes t f g early late) k (omega arith, tt))
   phase-in-time ps k (settled done n) = in-time t f ps k n k (omega arith)
 
-  desl-passes : (ps : List ClosedPair) (k : ℕ) → Ordered k ps → InTime t (summary ps) k → breachAt t (idle k ps) 0xC0000 ≡ 0
+  desl-passes : (ps : List ClosedPair) (k : ℕ) → Ordered k ps → InTime t (summary (t .four) ps) k → breachAt t (idle k ps) 0xC0000 ≡ 0
   desl-passes ps k o h = rw (breach-is t none k ps 0xC0000 o, h)
 
   module _ (ps : List ClosedPair) (k : ℕ) (ord : Ordered k ps) (ph : Phase t f ps k) where

@@ -86,13 +86,13 @@ front-of [] zero = refl
 front-of [] (suc n) = refl
 front-of (r ∷ rs) n = refl
 
-abbrev pub image : Config → Course → OpenPair → ℕ → Controller
-image c x opened spare =
+abbrev pub image : Config → Timing → Course → OpenPair → ℕ → Controller
+image c t x opened spare =
     record {
       config = c;
       clock = x .past .clock;
       opened = opened;
-      stamps = summary (x .past .pairs);
+      stamps = summary (t .four) (x .past .pairs);
       waiting = x .waiting ++ replicate spare vacant;
       count = length (x .waiting);
     }
@@ -110,7 +110,7 @@ module _ (t : Timing) (ps : List ClosedPair) (k : ℕ) where
           sym (lt-leb (lastRef ps + t .refi) (k + t .rc) (omega arith))
 
   -- what comes next
-  pub next-is : (rs : List Request) → operationIn (nextPair t (summary ps) k (length rs)) (front rs) ≡ candidate t (idle k ps) rs
+  pub next-is : (rs : List Request) → operationIn (nextPair t (summary (t .four) ps) k (length rs)) (front rs) ≡ candidate t (idle k ps) rs
   next-is rs =
       let e = oldest-counted (closings wasExtended ps) (closings-past0 wasExtended ps) in
       let g = counted (closings wasRegular ps) (closings-past0 wasRegular ps) 0 in
@@ -129,7 +129,7 @@ module _ (t : Timing) (ps : List ClosedPair) (k : ℕ) where
       go true false false false (r ∷ rs) = rw (nonzero (suc (length rs)) (omega arith))
 
   -- the look-ahead
-  passes-is : (w : Pair) → Ordered k ps → opens (w .first) ≡ true → passes t (summary ps) k w ≡ breachless t (idle k ps) w
+  passes-is : (w : Pair) → Ordered k ps → opens (w .first) ≡ true → passes t (summary (t .four) ps) k w ≡ breachless t (idle k ps) w
   passes-is w o h =
       let before = ordered-mono k (k + 1 - 1) (omega arith) ps o in
       let halfway : Past = record { clock = k + 1; opened = some (w .first); pairs = ps } in
@@ -140,8 +140,8 @@ module _ (t : Timing) (ps : List ClosedPair) (k : ℕ) where
 
   -- what opens
   pub opens-is : Figures t → (rs : List Request) (n : OpenPair) (x : Option Operation) → Ordered k ps → Due t rs x → operationIn n (front rs) ≡ x
-      → operationIn (cond (passes t (summary ps) k (pairWords t n (front rs))) n Nothing) (front rs) ≡ opening t (idle k ps) x
-  opens-is f rs n none o d e = go (passes t (summary ps) k (pairWords t n (front rs)))
+      → operationIn (cond (passes t (summary (t .four) ps) k (pairWords t n (front rs))) n Nothing) (front rs) ≡ opening t (idle k ps) x
+  opens-is f rs n none o d e = go (passes t (summary (t .four) ps) k (pairWords t n (front rs)))
     where
       go : (b : Bool) → operationIn (cond b n Nothing) (front rs) ≡ none
       go true = e

@@ -63,7 +63,7 @@ latest-moved ps k p at g n G new old = rw (latest-cons g p ps) (by (g p))
     by false = old
 
 -- where the gaps up to k are short, no refresh is overdue there
-pub by-gaps : (t : Timing) (ps : List ClosedPair) (k : ℕ) → Gaps (t .refi) (k ∷ closings wasRefresh ps) → InTime t (summary ps) k
+pub by-gaps : (t : Timing) (ps : List ClosedPair) (k : ℕ) → Gaps (t .refi) (k ∷ closings wasRefresh ps) → InTime t (summary (t .four) ps) k
 by-gaps t ps k g =
     let p : Past = record { clock = k; opened = none; pairs = ps } in
     sym (overdue-is t p 0) ∙ short-gaps t p 0 g
@@ -83,12 +83,12 @@ module _ (t : Timing) (f : Figures t) (ps : List ClosedPair) (k : ℕ) (n : Norm
       let l = next-in-time in
       gaps-cons (t .refi) j (closings wasRefresh ps) (omega arith) (n .gaps)
 
-  pub in-time : (j : ℕ) → j ≤ k + 1 → InTime t (summary ps) j
+  pub in-time : (j : ℕ) → j ≤ k + 1 → InTime t (summary (t .four) ps) j
   in-time j h = by-gaps t ps j (next-gap j h)
 
   -- once called for, a refresh may open as soon as RC clocks have passed since the last read and the last write
   pub refresh-free : lastRef ps + t .refi ≤ k + t .rc → latest wasRead ps + t .rc ≤ k + 1 → latest wasWrite ps + t .rc ≤ k + 1
-      → RefreshFree t (summary ps) (k + 1)
+      → RefreshFree t (summary (t .four) ps) (k + 1)
   refresh-free due read write =
       let h₁ = f .rc .1 in
       let h₂ = f .refc in

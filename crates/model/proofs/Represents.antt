@@ -119,7 +119,7 @@ module _ (c : Config) (t : Timing) (is : timingOf c ≡ value t) (f : Figures t)
   pub record Represents (s : Controller) (x : Course) : Type 0 where
     pub opened : OpenPair
     pub spare : ℕ
-    pub state : s ≡ image c x opened spare
+    pub state : s ≡ image c t x opened spare
     pub room : length (x .waiting) + spare ≡ 16
     pub operation : operationIn opened (front (x .waiting)) ≡ x .opened
     pub of-waiting : OfWaiting opened (x .waiting)
@@ -129,10 +129,10 @@ module _ (c : Config) (t : Timing) (is : timingOf c ≡ value t) (f : Figures t)
 
   -- the state is one that calls make, so 19 has no ground
   state-fits : (x : Course) (Bs : List ℕ) (p : OpenPair) (n : ℕ) → Going t f x Bs → x .past .clock ≤ 16777216 → length (x .waiting) + n ≡ 16
-      → operationIn p (front (x .waiting)) ≡ x .opened → OfWaiting p (x .waiting) → stateFits t (image c x p n) ≡ true
+      → operationIn p (front (x .waiting)) ≡ x .opened → OfWaiting p (x .waiting) → stateFits t (image c t x p n) ≡ true
   state-fits x Bs p n g low room e h =
       rw
-      (fits none (x .past .clock) (x .past .pairs) (ordered t f x Bs g) low, open-in p (front (x .waiting)), e, begun t f x Bs g, le-leb (length (x .waiting)) 16 (omega arith), take-append-seam (x .waiting) (replicate n vacant), all-in-range t f x Bs g, of-waiting-test p (x .waiting) h)
+      (fits (t .four) none (x .past .clock) (x .past .pairs) (ordered t f x Bs g) low, open-in p (front (x .waiting)), e, begun t f x Bs g, le-leb (length (x .waiting)) 16 (omega arith), take-append-seam (x .waiting) (replicate n vacant), all-in-range t f x Bs g, of-waiting-test p (x .waiting) h)
 
   abbrev pub refusing : Controller → List Request → Request → Offer
   refusing s rs q =
@@ -146,7 +146,7 @@ module _ (c : Config) (t : Timing) (is : timingOf c ≡ value t) (f : Figures t)
       (rw (is, state-fits x Bs (r .opened) (r .spare) g low (r .room) (r .operation) (r .of-waiting)))
 
   -- and otherwise joins the queue
-  joined-image : (x : Course) (p : OpenPair) (n : ℕ) (q : Request) → joined (image c x p (suc n)) q ≡ image c (laid.queued x q) p n
+  joined-image : (x : Course) (p : OpenPair) (n : ℕ) (q : Request) → joined (image c t x p (suc n)) q ≡ image c t (laid.queued x q) p n
   joined-image x p n q =
       let rs = x .waiting in
       let places = set-append-seam rs vacant (replicate n vacant) q ∙ sym (append-assoc rs (q ∷ []) (replicate n vacant)) in
@@ -156,7 +156,7 @@ module _ (c : Config) (t : Timing) (is : timingOf c ≡ value t) (f : Figures t)
   pub offer-represents : (s : Controller) (x : Course) (q : Request) → Represents s x → length (x .waiting) < 16 → Represents (joined s q) (laid.queued x q)
   offer-represents s x q r few = go (r .spare) (r .state) (r .room)
     where
-      go : (n : ℕ) → s ≡ image c x (r .opened) n → length (x .waiting) + n ≡ 16 → Represents (joined s q) (laid.queued x q)
+      go : (n : ℕ) → s ≡ image c t x (r .opened) n → length (x .waiting) + n ≡ 16 → Represents (joined s q) (laid.queued x q)
       go zero e h = absurd (omega arith)
       go (suc n) e h =
           let one = length-append (x .waiting) (q ∷ []) in
@@ -178,17 +178,17 @@ module _ (c : Config) (t : Timing) (is : timingOf c ≡ value t) (f : Figures t)
   -- where no pair is open
   starts-as : (ps : List ClosedPair) (k : ℕ) (rs : List Request) (Bs : List ℕ) (p : OpenPair) (n : ℕ) → let x = atRest t f k ps rs in
       Going t f x Bs → Ordered k ps → AllFit t rs → k < 16777216 → length rs + n ≡ 16 → operationIn p (front rs) ≡ none → OfWaiting p rs
-      → Ticks (image c x p n) (laid.tick t x)
+      → Ticks (image c t x p n) (laid.tick t x)
   starts-as ps k rs Bs p n g o a low room e h =
       let x = atRest t f k ps rs in
-      let next = nextPair t (summary ps) k (length rs) in
+      let next = nextPair t (summary (t .four) ps) k (length rs) in
       let opening = laid.opening t (idle k ps) (laid.candidate t (idle k ps) rs) in
       let due = opening-due t rs (idle k ps) (laid.candidate t (idle k ps) rs) (candidate-due t (idle k ps) rs a) .0 in
-      let opens = cond (passes t (summary ps) k (pairWords t next (front rs))) next Nothing in
+      let opens = cond (passes t (summary (t .four) ps) k (pairWords t next (front rs))) next Nothing in
       let same : operationIn opens (front rs) ≡ opening = opens-is t ps k f rs next (laid.candidate t (idle k ps) rs) o (candidate-due t (idle k ps) rs a) (next-is t ps k rs) in
       let word : pairWords t opens (front rs) .first ≡ laid.firstWord t opening = ap (λ w. w .first) (words-in t opens (front rs)) ∙ ap (λ y. pairIn t y .first) same ∙ first-in t opening in
       record {
-        after = image c (laid.tick t x .after) opens n;
+        after = image c t (laid.tick t x .after) opens n;
         tick =
             rw
             (is, state-fits x Bs p n g (omega arith) room e h, lt-ltb k 16777216 low, open-in p (front rs), e, front-of rs n, word);
@@ -207,18 +207,18 @@ module _ (c : Config) (t : Timing) (is : timingOf c ≡ value t) (f : Figures t)
   closes-as : (ps : List ClosedPair) (u : ℕ) (o : Operation) (qs : List Request) (Bs : List ℕ) (p : OpenPair) (n : ℕ) → let rs = requestOf o ++ qs in
       let x = inPair t f u o ps rs in
       Going t f x Bs → u + 1 < 16777216 → length rs + n ≡ 16 → operationIn p (front rs) ≡ some o → OfWaiting p rs
-      → Ticks (image c x p n) (laid.tick t x)
+      → Ticks (image c t x p n) (laid.tick t x)
   closes-as ps u o qs Bs p n g low room e h =
       let rs = requestOf o ++ qs in
       let x = inPair t f u o ps rs in
       let w = pairOf t o in
       let l = left o qs n room in
       let from : u + 1 - 1 + 1 ≡ u + 1 = omega arith in
-      let kept : remembered (summary ps) (u + 1) (w .first) (w .second) ≡ summary (laid.tick t x .after .past .pairs) = sym (summary-step (u + 1 - 1) (w .first) (w .second) ps ∙ ap (λ k. remembered (summary ps) k (w .first) (w .second)) from) in
+      let kept : remembered (t .four) (summary (t .four) ps) (u + 1) (w .first) (w .second) ≡ summary (t .four) (laid.tick t x .after .past .pairs) = sym (summary-step (t .four) (u + 1 - 1) (w .first) (w .second) ps ∙ ap (λ k. remembered (t .four) (summary (t .four) ps) k (w .first) (w .second)) from) in
       let words : pairWords t p (front rs) ≡ w = words-in t p (front rs) ∙ ap (pairIn t) e in
       let kind : ofOldest p ≡ isAccess o = oldest-in p (front rs) ∙ ap accessOpen e in
       record {
-        after = image c (laid.tick t x .after) Nothing (l .vacancies);
+        after = image c t (laid.tick t x .after) Nothing (l .vacancies);
         tick =
             rw
             (is, state-fits x Bs p n g (omega arith) room e h, lt-ltb (u + 1) 16777216 low, open-in p (front rs), e, front-of rs n, words, kind, kept, l .queue, l .count, leave-front o qs);
@@ -240,7 +240,7 @@ module _ (c : Config) (t : Timing) (is : timingOf c ≡ value t) (f : Figures t)
       → length (x .waiting) + n ≡ 16
       → operationIn p (front (x .waiting)) ≡ x .opened
       → OfWaiting p (x .waiting)
-      → Ticks (image c x p n) (laid.tick t x)
+      → Ticks (image c t x p n) (laid.tick t x)
 
   leads : (x : Course) (Bs : List ℕ) (p : OpenPair) (n : ℕ) → Going t f x Bs → Leads Bs p n x
   leads x Bs p n (between ps k rs e o ph q) = subst⁻¹ (Leads Bs p n) e (λ g. starts-as ps k rs Bs p n g o (q .fit))

@@ -61,7 +61,7 @@ pub record AccessFree (t : Timing) (s : Timestamps) (k first second : ℕ) : Typ
   pub sound : soundPair t first second ≡ true
   pub lal : lal second ≡ true
   pub ready : notReady (s .extended) (s .regular) (getD (s .refs) 1 0) k ≡ false
-  pub bank : Over k (bankStamp s first) (t .rc)
+  pub bank : Over k (bankStamp (t .four) s first) (t .rc)
   pub read : Over k (s .read) (t .rbd)
   pub write : Over k (s .write) (t .rbd)
   pub turn-write : Over k (s .read) (t .rwd + 1)
@@ -79,4 +79,4 @@ pub access-closes : (t : Timing) (s : Timestamps) (k first second : ℕ) → InT
     → wordBreach t s k first second ≡ 0
 access-closes t s k first second h f =
     let w = sound-tests t first second (f .sound) in
-    rw (w .mode, w .lane) (simp (h, w .stray₂, w .pd₂, w .cs, f .lal, f .ready, over-near k (bankStamp s first) (t .rc) (f .bank), over-near k (s .read) (t .rbd) (f .read), over-near k (s .write) (t .rbd) (f .write), over-near k (s .read) (t .rwd + 1) (f .turn-write), over-near k (s .write) (t .wrd + 1) (f .turn-read), over-near k (s .mode) (t .rsc) (f .mode), over-near k (getD (s .refs) 0 0) (t .refc) (f .refresh), and-false))
+    rw (w .mode, w .lane) (simp (h, w .stray₂, w .pd₂, w .cs, f .lal, f .ready, over-near k (bankStamp (t .four) s first) (t .rc) (f .bank), over-near k (s .read) (t .rbd) (f .read), over-near k (s .write) (t .rbd) (f .write), over-near k (s .read) (t .rwd + 1) (f .turn-write), over-near k (s .write) (t .wrd + 1) (f .turn-read), over-near k (s .mode) (t .rsc) (f .mode), over-near k (getD (s .refs) 0 0) (t .refc) (f .refresh), and-false))

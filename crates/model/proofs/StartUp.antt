@@ -87,7 +87,7 @@ module _ (t : Timing) (f : Figures t) where
           let o : Ordered k (extended ∷ []) = (omega arith, tt) in
           let o₁ : Ordered (k + 1 - 1) (extended ∷ []) = (omega arith, tt) in
           rw
-          (breach-is t none k (extended ∷ []) 0xA0000 o, breach-is t (some 0xA0000) (k + 1) (extended ∷ []) mrs (omega arith, o₁, refl), mode-closes t (summary (extended ∷ [])) (k + 1) 0xA0000 mrs refl (record { sound = written .0; closes = pins .closes; rda = refl; read = refl; write = refl; mode = inr (omega arith); refresh = inl refl }))
+          (breach-is t none k (extended ∷ []) 0xA0000 o, breach-is t (some 0xA0000) (k + 1) (extended ∷ []) mrs (omega arith, o₁, refl), mode-closes t (summary (t .four) (extended ∷ [])) (k + 1) 0xA0000 mrs refl (record { sound = written .0; closes = pins .closes; rda = refl; read = refl; write = refl; mode = inr (omega arith); refresh = inl refl }))
 
   -- the two refreshes, after a regular mode that opened at g
   module _ (g : ℕ) (early : 2 ≤ g) (late : g ≤ t .rsc) where

@@ -38,12 +38,12 @@ abbrev pub idle : ℕ → List ClosedPair → Past
 idle k ps = record { clock = k; opened = none; pairs = ps }
 
 -- a refresh that nothing holds back opens
-pub refresh-opens : (t : Timing) (ps : List ClosedPair) (k : ℕ) → Ordered k ps → InTime t (summary ps) k → InTime t (summary ps) (k + 1)
-    → RefreshFree t (summary ps) (k + 1) → breachless t (idle k ps) (pairOf t Refresh) ≡ true
+pub refresh-opens : (t : Timing) (ps : List ClosedPair) (k : ℕ) → Ordered k ps → InTime t (summary (t .four) ps) k → InTime t (summary (t .four) ps) (k + 1)
+    → RefreshFree t (summary (t .four) ps) (k + 1) → breachless t (idle k ps) (pairOf t Refresh) ≡ true
 refresh-opens t ps k o now next free =
     let before = ordered-mono k (k + 1 - 1) (omega arith) ps o in
     rw
-    (breach-is t none k ps 0x80000 o, breach-is t (some 0x80000) (k + 1) ps 0x80000 (omega arith, before, refl), refresh-first t (summary ps) k now, refresh-closes t (summary ps) (k + 1) next free)
+    (breach-is t none k ps 0x80000 o, breach-is t (some 0x80000) (k + 1) ps 0x80000 (omega arith, before, refl), refresh-first t (summary (t .four) ps) k now, refresh-closes t (summary (t .four) ps) (k + 1) next free)
 
 -- a pair that reads as an access has LAL, and no other
 access-lal : (t : Timing) (f s : ℕ) → lal s ≡ isAccess (operationOf t f s)

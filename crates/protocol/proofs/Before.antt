@@ -40,15 +40,15 @@ oldest-before k (c ∷ d ∷ cs) h = oldest-before k (d ∷ cs) (λ i. h (suc i)
 eight : (k : ℕ) (f : ℕ → ℕ) → ((i : ℕ) → Before k (f i)) → eightBefore k (eachBank f) ≡ true
 eight k f h = rw (h 0, h 1, h 2, h 3, h 4, h 5, h 6, h 7)
 
-summary-before : (k : ℕ) (ps : List ClosedPair) → Ordered k ps → stampsBefore k (summary ps) ≡ true
-summary-before k ps o =
+summary-before : (four : Bool) (k : ℕ) (ps : List ClosedPair) → Ordered k ps → stampsBefore k (summary four ps) ≡ true
+summary-before four k ps o =
     let at : (f : ClosedPair → Bool) (i : ℕ) → Before k (getD (closings f ps) i 0) = λ f. closing-before f k k (le-refl k) ps o in
     rw
-    (oldest-before k (closings wasExtended ps) (at wasExtended), at wasRegular 0, at wasMode 0, at wasRead 0, at wasWrite 0, eight k (λ b. latest (ofBank b) ps) (λ b. at (ofBank b) 0), eight k (λ i. getD (closings wasRefresh ps) i 0) (at wasRefresh))
+    (oldest-before k (closings wasExtended ps) (at wasExtended), at wasRegular 0, at wasMode 0, at wasRead 0, at wasWrite 0, eight k (λ b. latest (ofBank four b) ps) (λ b. at (ofBank four b) 0), eight k (λ i. getD (closings wasRefresh ps) i 0) (at wasRefresh))
 
 -- a past that words have led to, within the limit, fits
-pub fits : (o : Option ℕ) (k : ℕ) (ps : List ClosedPair) → Regular o k ps → k ≤ 16777216 → clockFits k (firstOf o) (summary ps) ≡ true
-fits none k ps r h = rw (le-leb k 16777216 h, summary-before k ps r, and-false)
-fits (some first) k ps r h =
+pub fits : (four : Bool) (o : Option ℕ) (k : ℕ) (ps : List ClosedPair) → Regular o k ps → k ≤ 16777216 → clockFits k (firstOf o) (summary four ps) ≡ true
+fits four none k ps r h = rw (le-leb k 16777216 h, summary-before four k ps r, and-false)
+fits four (some first) k ps r h =
     let e = r .0 in
-    rw (le-leb k 16777216 h, summary-before k ps (ordered-mono (k - 1) k (omega arith) ps (r .1)), ne-eqb k 0 (λ q. omega arith))
+    rw (le-leb k 16777216 h, summary-before four k ps (ordered-mono (k - 1) k (omega arith) ps (r .1)), ne-eqb k 0 (λ q. omega arith))

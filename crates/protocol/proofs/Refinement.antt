@@ -13,7 +13,7 @@ use Rattle.config.specs.Configuration.{timingOf}
 use Rattle.config.specs.declared.Config.{Config}
 use Rattle.config.specs.declared.Timing.{Timing}
 use Rattle.basics.proofs.Outcomes.{refused-value, same-number, refused-by}
-use Rattle.config.proofs.Accepted.{config-19}
+use Rattle.config.proofs.Accepted.{wired, config-19}
 use Rattle.rules.specs.History.{ClosedPair, Past, extendBy}
 use Rattle.rules.specs.Verdict.{accepted, breach, judge}
 use Rattle.stamps.specs.Stamps.{nextStamps, nextFirst}
@@ -34,46 +34,47 @@ at c s k first = record { config = c; clock = k; first = first; stamps = s; brea
 module _ (c : Config) (t : Timing) (e : timingOf c ≡ value t) where
   module _ (s : Timestamps) (k first w : ℕ) (f : clockFits k first s ≡ true) (h : k < 16777216) where
     step-passes : wordBreach t s k first w ≡ 0
-        → stepOf (at c s k first) w ≡ record { outcome = value accepted; after = at c (nextStamps s k first w) (k + 1) (nextFirst first w) }
+        → stepOf (at c s k first) w ≡ record { outcome = value accepted; after = at c (nextStamps (t .four) s k first w) (k + 1) (nextFirst first w) }
     step-passes z = rw (e, f, lt-ltb k 16777216 h, eq-eqb (wordBreach t s k first w) 0 z)
 
     step-breaches : (n : ℕ) → wordBreach t s k first w ≡ suc n → stepOf (at c s k first) w .outcome ≡ value (breach k (suc n))
     step-breaches n z = rw (e, f, lt-ltb k 16777216 h, z, ne-eqb (suc n) 0 (λ q. omega arith))
 
   stepping-is : (o : Option ℕ) (k : ℕ) (ps : List ClosedPair) (ws : List ℕ) → Regular o k ps → k + length ws ≤ 16777216
-      → stepping (at c (summary ps) k (firstOf o)) ws ≡ value (run t (summary ps) k (firstOf o) ws)
+      → stepping (at c (summary (t .four) ps) k (firstOf o)) ws ≡ value (run t (summary (t .four) ps) k (firstOf o) ws)
   stepping-is o k ps [] r h = refl
   stepping-is o k ps (w ∷ ws) r h =
       let p : Past = record { clock = k; opened = o; pairs = ps } in
       let q = extendBy o p w in
       let one = clock-is o p w in
       let ih = stepping-is (q .opened) (q .clock) (q .pairs) ws (regular-extend o p w r) (omega arith) in
-      go (wordBreach t (summary ps) k (firstOf o) w) refl (rw (stamps-is o p w r, one, first-is o p w r) at ih)
+      go (wordBreach t (summary (t .four) ps) k (firstOf o) w) refl (rw (stamps-is (t .four) o p w r, one, first-is o p w r) at ih)
     where
-      f : clockFits k (firstOf o) (summary ps) ≡ true
-      f = fits o k ps r (omega arith)
+      f : clockFits k (firstOf o) (summary (t .four) ps) ≡ true
+      f = fits (t .four) o k ps r (omega arith)
 
-      go : (n : ℕ) → wordBreach t (summary ps) k (firstOf o) w ≡ n
-          → stepping (at c (nextStamps (summary ps) k (firstOf o) w) (k + 1) (nextFirst (firstOf o) w)) ws
-          ≡ value (run t (nextStamps (summary ps) k (firstOf o) w) (k + 1) (nextFirst (firstOf o) w) ws)
-          → stepping (at c (summary ps) k (firstOf o)) (w ∷ ws) ≡ value (run t (summary ps) k (firstOf o) (w ∷ ws))
-      go zero z ih = rw (step-passes (summary ps) k (firstOf o) w f (omega arith) z, z) ih
-      go (suc n) z ih = rw (step-breaches (summary ps) k (firstOf o) w f (omega arith) n z, z)
+      go : (n : ℕ) → wordBreach t (summary (t .four) ps) k (firstOf o) w ≡ n
+          → stepping (at c (nextStamps (t .four) (summary (t .four) ps) k (firstOf o) w) (k + 1) (nextFirst (firstOf o) w)) ws
+          ≡ value (run t (nextStamps (t .four) (summary (t .four) ps) k (firstOf o) w) (k + 1) (nextFirst (firstOf o) w) ws)
+          → stepping (at c (summary (t .four) ps) k (firstOf o)) (w ∷ ws) ≡ value (run t (summary (t .four) ps) k (firstOf o) (w ∷ ws))
+      go zero z ih = rw (step-passes (summary (t .four) ps) k (firstOf o) w f (omega arith) z, z) ih
+      go (suc n) z ih = rw (step-breaches (summary (t .four) ps) k (firstOf o) w f (omega arith) n z, z)
 
 verdict : (c : Config) (t : Timing) (ws : List ℕ) → timingOf c ≡ value t → length ws ≤ 16777216 → stepping (fresh c) ws ≡ value (judge t ws)
 verdict c t ws e h = stepping-is c t e none 0 [] ws tt (omega arith) ∙ ap value (sym (run-is t ws))
 
 -- a clock, first word and timestamps that are those of such a past
-record OfPast (k f : ℕ) (s : Timestamps) : Type 0 where
+record OfPast (four : Bool) (k f : ℕ) (s : Timestamps) : Type 0 where
   opened : Option ℕ
   pairs : List ClosedPair
   regular : Regular opened k pairs
   limit : k ≤ 16777216
   first : f ≡ firstOf opened
-  stamps : s ≡ summary pairs
+  stamps : s ≡ summary four pairs
 
-past-next : (k f : ℕ) (s : Timestamps) (w : ℕ) → OfPast k f s → k < 16777216 → OfPast (k + 1) (nextFirst f w) (nextStamps s k f w)
-past-next k f s w h l =
+past-next : (four : Bool) (k f : ℕ) (s : Timestamps) (w : ℕ) → OfPast four k f s → k < 16777216
+    → OfPast four (k + 1) (nextFirst f w) (nextStamps four s k f w)
+past-next four k f s w h l =
     let p : Past = record { clock = k; opened = h .opened; pairs = h .pairs } in
     let q = extendBy (h .opened) p w in
     record {
@@ -82,28 +83,32 @@ past-next k f s w h l =
       regular = subst (λ n. Regular (q .opened) n (q .pairs)) (clock-is (h .opened) p w) (regular-extend (h .opened) p w (h .regular));
       limit = omega arith;
       first = rw (h .first) (sym (first-is (h .opened) p w (h .regular)));
-      stamps = rw (h .first, h .stamps) (sym (stamps-is (h .opened) p w (h .regular)));
+      stamps = rw (h .first, h .stamps) (sym (stamps-is four (h .opened) p w (h .regular)));
     }
 
-past-fits : (k f : ℕ) (s : Timestamps) → OfPast k f s → clockFits k f s ≡ true
-past-fits k f s h = rw (h .first, h .stamps) (fits (h .opened) k (h .pairs) (h .regular) (h .limit))
+past-fits : (four : Bool) (k f : ℕ) (s : Timestamps) → OfPast four k f s → clockFits k f s ≡ true
+past-fits four k f s h = rw (h .first, h .stamps) (fits four (h .opened) k (h .pairs) (h .regular) (h .limit))
+
+-- of a state's own wiring
+abbrev four : Checker → Bool
+four c = eqb (c .config .wiring) 4
 
 abbrev HasPast : Checker → Type 0
-HasPast c = OfPast (c .clock) (c .first) (c .stamps)
+HasPast c = OfPast (four c) (c .clock) (c .first) (c .stamps)
 
 pub cond-case : {A : Type 0} (P : A → Type 0) (b : Bool) (x y : A) → (b ≡ true → P x) → (b ≡ false → P y) → P (cond b x y)
 cond-case P true x y f g = f refl
 cond-case P false x y f g = g refl
 
 -- every step keeps it, whatever it answers
-past-step : (o : Outcome Timing) (c : Checker) (w : ℕ) → HasPast c → HasPast (stepBy o c w .after)
-past-step (refused n) c w h = h
-past-step (value t) c w h =
+past-step : (o : Outcome Timing) (c : Checker) (w : ℕ) → timingOf (c .config) ≡ o → HasPast c → HasPast (stepBy o c w .after)
+past-step (refused n) c w e h = h
+past-step (value t) c w e h =
     cond-case P (clockFits (c .clock) (c .first) (c .stamps)) _ _
     (λ _. cond-case P (eqb (c .breach .number) 0) _ _
     (λ _. cond-case P (ltb (c .clock) 16777216) _ _
     (λ l. cond-case P (eqb (wordBreach t (c .stamps) (c .clock) (c .first) w) 0) _ _
-    (λ _. past-next (c .clock) (c .first) (c .stamps) w h (ltb-true (c .clock) 16777216 l))
+    (λ _. rw (wired (c .config) t e) (past-next (four c) (c .clock) (c .first) (c .stamps) w h (ltb-true (c .clock) 16777216 l)))
     (λ _. h))
     (λ _. h))
     (λ _. h))
@@ -114,7 +119,7 @@ past-step (value t) c w h =
 
 past-all : (c : Checker) (ws : List ℕ) → HasPast c → HasPast (afterAll c ws)
 past-all c [] h = h
-past-all c (w ∷ ws) h = past-all (stepOf c w .after) ws (past-step (timingOf (c .config)) c w h)
+past-all c (w ∷ ws) h = past-all (stepOf c w .after) ws (past-step (timingOf (c .config)) c w refl h)
 
 not-19 : (o : Outcome Timing) (c : Checker) (w : ℕ) → (o ≡ refused 19 → ⊥) → HasPast c → stepBy o c w .outcome ≡ refused 19 → ⊥
 not-19 (refused m) c w n h = λ e. n (ap refused (same-number e))
@@ -125,7 +130,7 @@ not-19 (value t) c w n h =
     (λ l. cond-case P (eqb (wordBreach t (c .stamps) (c .clock) (c .first) w) 0) _ _ (λ _ e. refused-value (sym e)) (λ _ e. refused-value (sym e)))
     (λ _. refused-by (λ q. omega arith)))
     (λ _. refused-by (λ q. omega arith)))
-    (λ z. absurd (true≢false (sym (past-fits (c .clock) (c .first) (c .stamps) h) ∙ z)))
+    (λ z. absurd (true≢false (sym (past-fits (four c) (c .clock) (c .first) (c .stamps) h) ∙ z)))
   where
     P : Step → Type 0
     P r = r .outcome ≡ refused 19 → ⊥

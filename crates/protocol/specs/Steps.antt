@@ -47,7 +47,7 @@ judged t s w =
             config = s .config;
             clock = s .clock + 1;
             first = nextFirst (s .first) w;
-            stamps = nextStamps (s .stamps) (s .clock) (s .first) w;
+            stamps = nextStamps (t .four) (s .stamps) (s .clock) (s .first) w;
             breach = s .breach;
           };
     })

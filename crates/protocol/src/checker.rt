@@ -70,13 +70,14 @@ impl Checker {
         let first = self.first;
         let number = word_breach(timing, stamps, clock, first, word);
         if number == 0 {
+            let figures = timing.figures();
             return Stepped {
                 verdict: Verdict::Accepted,
                 checker: Checker {
                     config,
                     clock: clock + 1,
                     first: next_first(first, word),
-                    stamps: stamps.after(clock, first, word),
+                    stamps: stamps.after(figures.four, clock, first, word),
                     breach,
                 },
             };

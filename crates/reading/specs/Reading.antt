@@ -7,6 +7,7 @@ use Rattle.config.specs.Configuration.{timingOf}
 use Rattle.config.specs.declared.Config.{Config}
 use Rattle.config.specs.declared.Timing.{Timing}
 use Rattle.command.specs.Pins.{pins, high, strayBit}
+use Rattle.command.specs.Address.{bankOf, rowOf}
 use Rattle.command.specs.Pairs.{opens, rda, lal, isWrite, isMode}
 use Rattle.command.specs.declared.operation.Request.{Request}
 use Rattle.command.specs.declared.operation.Operation.{Operation}
@@ -37,8 +38,8 @@ abbrev pub accessOf : Timing → Bool → ℕ → ℕ → Request
 accessOf t write first second =
     record {
       write = write;
-      bank = pins 14 3 first;
-      row = pins 0 14 first;
+      bank = bankOf (t .four) first;
+      row = rowOf (t .four) first;
       column = columnOf t second;
       lower = cond write (laneOf t (high 16 second) (high 13 second)) 0;
       upper = cond (write && eqb (t .organisation) 16) (laneOf t (high 12 second) (high 11 second)) 0;

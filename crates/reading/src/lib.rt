@@ -3,6 +3,8 @@ use basics::Refusal;
 use command::Operation;
 use command::Pair;
 use command::Request;
+use command::address::bank;
+use command::address::row;
 use command::pins::A0;
 use command::pins::A1;
 use command::pins::A3;
@@ -69,8 +71,8 @@ fn access(timing: Timing, write: bool, first: u32, second: u32) -> Request
     let upper = lane(short, high(second, A12), high(second, A11));
     Request {
         write,
-        bank: first / BA0 % 8,
-        row: first / A0 % 16384,
+        bank: bank(figures.four, first),
+        row: row(figures.four, first),
         column: column(wide, second),
         lower: kept(write, lower),
         upper: kept(write & wide, upper),

@@ -3,19 +3,26 @@ use crate::answers;
 use crate::script::ahead;
 use crate::script::config_at;
 use crate::script::request_at;
+use crate::script::wired_at;
 use crate::script::word;
 use command::Operation;
 use command::Pair;
 use config::Config;
 
-// 1: test the configuration, and go on with it, accepted or not. Any other call leaves the one that is held.
-pub(crate) fn configure(bytes: &[u8], at: usize, held: Config) -> Config {
-    if word(bytes, at, 0) != 1 {
-        return held;
-    }
-    let config = config_at(bytes, ahead(at, 1));
+fn tested(config: Config) -> Config {
     answers::config(config.timing());
     config
+}
+
+// 1 and 13: test the configuration, and go on with it, accepted or not. Any other call leaves the one that is held.
+pub(crate) fn configure(bytes: &[u8], at: usize, held: Config) -> Config {
+    let code = word(bytes, at, 0);
+    let numbers = ahead(at, 1);
+    match code {
+        1 => tested(config_at(bytes, numbers)),
+        13 => tested(wired_at(bytes, numbers)),
+        _ => held,
+    }
 }
 
 fn pair_at(bytes: &[u8], at: usize) -> Pair {

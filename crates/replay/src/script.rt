@@ -19,6 +19,7 @@ pub(crate) fn word(bytes: &[u8], at: usize, count: usize) -> u32 {
     words::word_at(bytes, ahead(at, count))
 }
 
+// A sheet of ten numbers.
 pub(crate) fn config_at(bytes: &[u8], at: usize) -> Config {
     Config::from_numbers(
         word(bytes, at, 0),
@@ -31,6 +32,23 @@ pub(crate) fn config_at(bytes: &[u8], at: usize) -> Config {
         word(bytes, at, 7),
         word(bytes, at, 8),
         word(bytes, at, 9),
+    )
+}
+
+// A sheet of eleven numbers, the last its wiring.
+pub(crate) fn wired_at(bytes: &[u8], at: usize) -> Config {
+    Config::wired(
+        word(bytes, at, 0),
+        word(bytes, at, 1),
+        word(bytes, at, 2),
+        word(bytes, at, 3),
+        word(bytes, at, 4),
+        word(bytes, at, 5),
+        word(bytes, at, 6),
+        word(bytes, at, 7),
+        word(bytes, at, 8),
+        word(bytes, at, 9),
+        word(bytes, at, 10),
     )
 }
 

@@ -24,6 +24,7 @@ fn sheet(config: Config) {
     number(config.wrd.0);
     number(config.rsc.0);
     number(config.refc.0);
+    number(config.wiring);
 }
 
 fn eight(clocks: [u32; 8]) {

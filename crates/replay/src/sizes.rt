@@ -27,7 +27,7 @@ fn of_controller(opened: u32) -> usize {
     if 4 < opened {
         return 0;
     }
-    131
+    132
 }
 
 // The words of the call at this index, its code among them; 0 where it is not listed.
@@ -35,14 +35,15 @@ fn size(bytes: &[u8], at: usize) -> usize {
     let code = word(bytes, at, 0);
     match code {
         1 => 11,
+        13 => 12,
         2 | 6 => 3,
         3 | 8 | 10 | 107 | 108 => of_trace(word(bytes, at, 1)),
         4 | 11 => 7,
         5 | 12 => 2,
         7 => of_operation(word(bytes, at, 1)),
         9 | 103 | 104 | 105 | 106 => 1,
-        101 => 36,
-        102 => of_controller(word(bytes, at, 12)),
+        101 => 37,
+        102 => of_controller(word(bytes, at, 13)),
         _ => 0,
     }
 }

@@ -1,7 +1,7 @@
 // States given number by number.
 use crate::script::ahead;
-use crate::script::config_at;
 use crate::script::request_at;
+use crate::script::wired_at;
 use crate::script::word;
 use command::Request;
 use controller::Controller;
@@ -38,13 +38,13 @@ fn stamps_at(bytes: &[u8], at: usize) -> Timestamps {
 // 101: the checker's state.
 pub(crate) fn checker_at(bytes: &[u8], at: usize) -> Checker {
     Checker {
-        config: config_at(bytes, at),
-        clock: word(bytes, at, 10),
-        first: word(bytes, at, 11),
-        stamps: stamps_at(bytes, ahead(at, 12)),
+        config: wired_at(bytes, at),
+        clock: word(bytes, at, 11),
+        first: word(bytes, at, 12),
+        stamps: stamps_at(bytes, ahead(at, 13)),
         breach: Breach {
-            clock: word(bytes, at, 33),
-            number: word(bytes, at, 34),
+            clock: word(bytes, at, 34),
+            number: word(bytes, at, 35),
         },
     }
 }
@@ -72,11 +72,11 @@ fn waiting_at(bytes: &[u8], at: usize) -> [Request; 16] {
 // 102: the controller's state.
 pub(crate) fn controller_at(bytes: &[u8], at: usize) -> Controller {
     Controller {
-        config: config_at(bytes, at),
-        clock: word(bytes, at, 10),
-        opened: open_pair(word(bytes, at, 11)),
-        stamps: stamps_at(bytes, ahead(at, 12)),
-        waiting: waiting_at(bytes, ahead(at, 34)),
-        count: word(bytes, at, 33),
+        config: wired_at(bytes, at),
+        clock: word(bytes, at, 11),
+        opened: open_pair(word(bytes, at, 12)),
+        stamps: stamps_at(bytes, ahead(at, 13)),
+        waiting: waiting_at(bytes, ahead(at, 35)),
+        count: word(bytes, at, 34),
     }
 }

@@ -87,11 +87,11 @@ fn tick_once(lent: bool, controller: Controller) -> Controller {
     ticked.controller
 }
 
-// The controller after a call; one of another kind leaves it, and 1 starts anew.
+// The controller after a call; one of another kind leaves it, and 1 and 13 start anew.
 pub(crate) fn after(bytes: &[u8], at: usize, config: Config, controller: Controller) -> Controller {
     let code = word(bytes, at, 0);
     match code {
-        1 => Controller::fresh(config),
+        1 | 13 => Controller::fresh(config),
         4 | 11 => offer(code == 11, controller, request_at(bytes, ahead(at, 1))),
         5 | 12 => tick(code == 12, controller, word(bytes, at, 1)),
         9 => {

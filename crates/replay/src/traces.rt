@@ -120,11 +120,11 @@ fn trace(bytes: &[u8], at: usize, config: Config, checker: Checker) -> Checker {
     checker
 }
 
-// The checker after a call; one of another kind leaves it, and 1 starts anew.
+// The checker after a call; one of another kind leaves it, and 1 and 13 start anew.
 pub(crate) fn after(bytes: &[u8], at: usize, config: Config, checker: Checker) -> Checker {
     let code = word(bytes, at, 0);
     match code {
-        1 => Checker::fresh(config),
+        1 | 13 => Checker::fresh(config),
         2 => step(checker, word(bytes, at, 1), word(bytes, at, 2)),
         3 | 8 | 10 | 107 | 108 => trace(bytes, at, config, checker),
         101 => checker_at(bytes, ahead(at, 1)),

@@ -1,5 +1,5 @@
 -- A sound pair stands for an operation in range, which is written back as the pair with every ignored pin low. Assumes nothing.
-use Prim.Native.Nat.{ℕ, _+_, _*_, _/_, _^_}
+use Prim.Native.Nat.{ℕ, _+_, _*_, _/_, _^_, _<_}
 use mathlib.Core.Path.{_≡_, refl, sym, ap, subst⁻¹, _∙_}
 use mathlib.Core.Bool.{Bool, true, false, cond, not, _&&_, _||_, or-true, true≢false}
 use mathlib.Core.List.{List, [], _∷_, _++_}
@@ -13,6 +13,7 @@ use Rattle.config.specs.declared.Config.{Config}
 use Rattle.config.specs.declared.Timing.{Timing}
 use Rattle.config.proofs.Bounds.{both}
 use Rattle.command.specs.Pins.{pins, high, put, drive, level}
+use Rattle.command.specs.Address.{bankOf, rowOf, addressFits, addressAt}
 use Rattle.command.specs.Pairs.{rda, lal}
 use Rattle.reading.specs.Reading.{columnOf, laneOf, accessOf, registerFits, modeFits, modeBy, modeWrong, laneReserved, soundPair, operationOf}
 use Rattle.writing.specs.Writing.{lanesFit, operationFits, laneAt, pairOf}
@@ -88,13 +89,28 @@ only-append (p ∷ ps) qs w = rw (only-append ps qs w) (sym (add-assoc _ (only p
 always-word : (s : ℕ) → pins 18 1 s ≡ 1 → pins 19 1 s ≡ 1 → only always s ≡ 2 ^ 19 + 2 ^ 18
 always-word s cs pd = rw (put-pins 18 1 s, put-pins 19 1 s, cs, pd)
 
-first-word : (f : ℕ) (r : Bool) → rda f ≡ r → pins 18 1 f ≡ 0 → pins 19 1 f ≡ 1
-    → 2 ^ 19 + drive 17 r + put 14 3 (pins 14 3 f) + put 0 14 (pins 0 14 f) ≡ only (firstPins true) f
-first-word f r e cs pd =
-    rw (put-pins 14 3 f, put-pins 0 14 f, put-pins 17 1 f, put-pins 18 1 f, put-pins 19 1 f, ← level-high 17 f, e, cs, pd)
+-- bank and row of a first word, with either wiring: they are in range, and put back they are all its address pins
+address-fits : (four : Bool) (f : ℕ) → addressFits four (bankOf four f) (rowOf four f) ≡ true
+address-fits true f = rw (le-leb (bankOf true f) 3 (omega arith), le-leb (rowOf true f) 32767 (omega arith))
+address-fits false f = rw (le-leb (bankOf false f) 7 (omega arith), le-leb (rowOf false f) 16383 (omega arith))
+
+address-word : (four : Bool) (f : ℕ) → addressAt four (bankOf four f) (rowOf four f) ≡ pins 14 3 f * 2 ^ 14 + pins 0 14 f
+address-word true f =
+    rw (pins-split 14 1 2 f)
+    (total (pins 16 1 f) (pins 14 2 f) (pins 0 14 f) (mod-lt (f / 2 ^ 16) (lit< tt)) (mod-lt (f / 2 ^ 14) (lit< tt)) (mod-lt (f / 1) (lit< tt)))
+  where
+    total : (p q a : ℕ) → p < 2 → q < 4 → a < 2 ^ 14 → addressAt true q (p * 2 ^ 14 + a) ≡ (p * 4 + q) * 2 ^ 14 + a
+    total p q a top bank low = omega arith
+address-word false f = omega arith
+
+first-word : (four : Bool) (f : ℕ) (r : Bool) → rda f ≡ r → pins 18 1 f ≡ 0 → pins 19 1 f ≡ 1
+    → 2 ^ 19 + drive 17 r + addressAt four (bankOf four f) (rowOf four f) ≡ only (firstPins true) f
+first-word four f r e cs pd =
+    rw
+    (address-word four f, put-pins 14 3 f, put-pins 0 14 f, put-pins 17 1 f, put-pins 18 1 f, put-pins 19 1 f, ← level-high 17 f, e, cs, pd)
     (total (level r) (pins 14 3 f) (pins 0 14 f))
   where
-    total : (a b d : ℕ) → 524288 + a * 131072 + b * 16384 + d * 1 ≡ d * 1 + (b * 16384 + (a * 131072 + (0 * 262144 + (1 * 524288 + 0))))
+    total : (a b d : ℕ) → 524288 + a * 131072 + (b * 16384 + d) ≡ d * 1 + (b * 16384 + (a * 131072 + (0 * 262144 + (1 * 524288 + 0))))
     total a b d = omega arith
 
 column-word : (c : Config) (wide : Bool) → eqb (c .organisation) 16 ≡ wide → (s : ℕ)
@@ -172,16 +188,13 @@ module _ (c : Config) (bl : (c .bl ≡ 2) ⊎ (c .bl ≡ 4)) (f s : ℕ) (h : So
       → (unused (derived c) (high 16 s) (high 13 s) ≡ false) × ((eqb (c .bl) 4 && (eqb (c .organisation) 16 && (not (high 12 s) && not (high 11 s)))) ≡ false)
   lanes-used r l = neither (eqb (c .bl) 4) (not (high 16 s) && not (high 13 s)) _ (rw (r, l) at (h .lane))
 
-  bank-fits : (leb (pins 14 3 f) 7 && leb (pins 0 14 f) 16383) ≡ true
-  bank-fits = rw (le-leb (pins 14 3 f) 7 (omega arith), le-leb (pins 0 14 f) 16383 (omega arith))
-
   read-back : rda f ≡ true → lal s ≡ true
       → WritesTo (derived c) (Access (accessOf (derived c) false f s)) (ignoredLow c (record { first = f; second = s }))
   read-back r l =
       let wide = eqb (c .organisation) 16 in (
-        rw (bank-fits, column-fits wide s),
+        rw (address-fits (derived c .four) f, column-fits wide s),
         rw (r, l)
-            (pair-path (first-word f true r (h .cs) (h .pd₁))
+            (pair-path (first-word (derived c .four) f true r (h .cs) (h .pd₁))
             (rw (column-word c wide refl s, always-word s (is-high 18 s l) (h .pd₂)) (omega arith))),
       )
 
@@ -214,9 +227,9 @@ module _ (c : Config) (bl : (c .bl ≡ 2) ⊎ (c .bl ≡ 4)) (f s : ℕ) (h : So
   write-back r l =
       let wide = eqb (c .organisation) 16 in
       let lanes = write-lanes wide refl r l in (
-        rw (bank-fits, column-fits wide s) (lanes .0),
+        rw (address-fits (derived c .four) f, column-fits wide s) (lanes .0),
         rw (r, l)
-            (pair-path (first-word f false r (h .cs) (h .pd₁))
+            (pair-path (first-word (derived c .four) f false r (h .cs) (h .pd₁))
             (rw (column-word c wide refl s, only-append (writePins c) always s, always-word s (is-high 18 s l) (h .pd₂), ← lanes .1) (regroup 786432 _ _ _))),
       )
 

@@ -10,6 +10,7 @@ use lib.Dec.{eqb, leb, lit≤}
 use Rattle.config.specs.declared.Timing.{Timing}
 use Rattle.config.proofs.Bounds.{both, either}
 use Rattle.command.specs.Pins.{pins, high, strayBit}
+use Rattle.command.specs.Address.{addressFits}
 use Rattle.reading.specs.Reading.{laneOf, columnOf, reserved, registerFits, modeBy, soundPair, operationOf}
 use Rattle.writing.specs.Writing.{laneFits, lanesFit, requestFits, operationFits, accessPair, pairOf}
 use Rattle.command.specs.declared.operation.Request.{Request}
@@ -24,7 +25,7 @@ abbrev pub ReadsTo : Timing → ℕ → ℕ → Operation → Type 0
 ReadsTo t first second o = (soundPair t first second ≡ true) × (operationOf t first second ≡ o)
 
 -- two words that show an access's fields
-read-access : (t : Timing) (r : Request) (f s : ℕ) → First (r .write) (r .bank) (r .row) f → strayBit s ≡ false → high 19 s ≡ true
+read-access : (t : Timing) (r : Request) (f s : ℕ) → First (t .four) (r .write) (r .bank) (r .row) f → strayBit s ≡ false → high 19 s ≡ true
     → high 18 s ≡ true → columnOf t s ≡ r .column → cond (r .write) (laneOf t (high 16 s) (high 13 s)) 0 ≡ r .lower
     → cond (r .write && eqb (t .organisation) 16) (laneOf t (high 12 s) (high 11 s)) 0 ≡ r .upper
     → (r .write && reserved t s) ≡ false → ReadsTo t f s (Access r)
@@ -115,11 +116,11 @@ module _ (t : Timing) (bl : (t .bl ≡ 2) ⊎ (t .bl ≡ 4)) where
   written-access r e =
       let wide = eqb (t .organisation) 16 in
       let columns = leb (r .column) 255 || not wide && leb (r .column) 511 in
-      let h₁ = both (leb (r .bank) 7 && leb (r .row) 16383 && columns) (lanesFit t r) e in
-      let h₂ = both (leb (r .bank) 7 && leb (r .row) 16383) columns (h₁ .0) in
-      let h₃ = both (leb (r .bank) 7) (leb (r .row) 16383) (h₂ .0) in
+      let address = addressFits (t .four) (r .bank) (r .row) in
+      let h₁ = both (address && columns) (lanesFit t r) e in
+      let h₂ = both address columns (h₁ .0) in
       let d = driven (r .write) wide refl (r .bank) (r .row) (r .column) (r .lower) (r .upper) (h₁ .1) in
-      let first = first-word (r .write) (r .bank) (r .row) (leb-true (r .bank) 7 (h₃ .0)) (leb-true (r .row) 16383 (h₃ .1)) in
+      let first = first-word (t .four) (r .write) (r .bank) (r .row) (h₂ .0) in
       let column = column-bound wide (r .column) (h₂ .1) in
       let w = secondWord (r .column) (d .v₀) (d .v₁) (d .u₀) (d .u₁) in
       let second = second-word (r .column) (d .v₀) (d .v₁) (d .u₀) (d .u₁) (column .0) in

@@ -1,6 +1,7 @@
 -- What is kept is the summary of the past, word by word. Assumes nothing.
 use Prim.Native.Nat.{ℕ}
 use mathlib.Core.Path.{_≡_, refl, sym, _∙_, ap}
+use mathlib.Core.Bool.{Bool}
 use mathlib.Core.List.{List, [], _∷_}
 use Rattle.rules.specs.History.{Past, nothing, extend, pastFrom}
 use Rattle.rules.specs.Breaches.{wordBreach}
@@ -8,21 +9,21 @@ use Rattle.rules.specs.Kept.{Kept, keptFrom, Enough}
 use Rattle.rules.proofs.Summary.{summary}
 use Rattle.rules.proofs.Words.{firstOf, Regular, regular-extend, breach-is, stamps-is, first-is, clock-is}
 
-abbrev of : Past → Kept
-of p = record { clock = p .clock; first = firstOf (p .opened); stamps = summary (p .pairs) }
+abbrev of : Bool → Past → Kept
+of four p = record { clock = p .clock; first = firstOf (p .opened); stamps = summary four (p .pairs) }
 
-kept-from : (p : Past) (ws : List ℕ) → Regular (p .opened) (p .clock) (p .pairs)
-    → let q = pastFrom p ws in (keptFrom (of p) ws ≡ of q) × Regular (q .opened) (q .clock) (q .pairs)
-kept-from p [] r = (refl, r)
-kept-from p (w ∷ ws) r =
-    let rest = kept-from (extend p w) ws (regular-extend (p .opened) p w r) in
-    (rw (← clock-is (p .opened) p w, ← first-is (p .opened) p w r, ← stamps-is (p .opened) p w r) (rest .0), rest .1)
+kept-from : (four : Bool) (p : Past) (ws : List ℕ) → Regular (p .opened) (p .clock) (p .pairs)
+    → let q = pastFrom p ws in (keptFrom four (of four p) ws ≡ of four q) × Regular (q .opened) (q .clock) (q .pairs)
+kept-from four p [] r = (refl, r)
+kept-from four p (w ∷ ws) r =
+    let rest = kept-from four (extend p w) ws (regular-extend (p .opened) p w r) in
+    (rw (← clock-is (p .opened) p w, ← first-is (p .opened) p w r, ← stamps-is four (p .opened) p w r) (rest .0), rest .1)
 
 pub enough : Enough
 enough =
     record {
       breach = λ t ws w.
-          let h = kept-from nothing ws tt in
+          let h = kept-from (t .four) nothing ws tt in
           let p = pastFrom nothing ws in
           ap (λ k. wordBreach t (k .stamps) (k .clock) (k .first) w) (h .0) ∙ sym (breach-is t (p .opened) (p .clock) (p .pairs) w (h .1));
     }

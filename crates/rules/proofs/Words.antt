@@ -57,23 +57,23 @@ early-first false false true n = refl
 early-first false false false n = refl
 
 pub breach-is : (t : Timing) (o : Option ℕ) (k : ℕ) (ps : List ClosedPair) (w : ℕ) → Regular o k ps
-    → breachAt t (record { clock = k; opened = o; pairs = ps }) w ≡ wordBreach t (summary ps) k (firstOf o) w
+    → breachAt t (record { clock = k; opened = o; pairs = ps }) w ≡ wordBreach t (summary (t .four) ps) k (firstOf o) w
 breach-is t none k ps w r =
-    rw (overdue-is t (record { clock = k; opened = none; pairs = ps }) w) (early-first (strayBit w) (not (high 19 w)) (overdue (deadline (t .refi) (summary ps .refs)) k) 0)
+    rw (overdue-is t (record { clock = k; opened = none; pairs = ps }) w) (early-first (strayBit w) (not (high 19 w)) (overdue (deadline (t .refi) (summary (t .four) ps .refs)) k) 0)
 breach-is t (some first) k ps w r =
     rw
     (r .2, overdue-is t (record { clock = k; opened = some first; pairs = ps }) w, ready-is t k first w ps (r .1), bank-is t k first w ps (r .1), close-is t k first w ps (r .1), mode-is t k first w ps (r .1), refresh-is t k first w ps (r .1), busy-is t k first w ps (r .1), window-is t k first w ps (r .1) (r .0))
-    (early-first (strayBit w) (not (high 19 w)) (overdue (deadline (t .refi) (summary ps .refs)) k) (closingBreach t (summary ps) k first w))
+    (early-first (strayBit w) (not (high 19 w)) (overdue (deadline (t .refi) (summary (t .four) ps .refs)) k) (closingBreach t (summary (t .four) ps) k first w))
 
 -- what is kept after the word
-pub stamps-is : (o : Option ℕ) (p : Past) (w : ℕ) → Regular o (p .clock) (p .pairs)
-    → summary (extendBy o p w .pairs) ≡ nextStamps (summary (p .pairs)) (p .clock) (firstOf o) w
-stamps-is none p w r = refl
-stamps-is (some first) p w r =
+pub stamps-is : (four : Bool) (o : Option ℕ) (p : Past) (w : ℕ) → Regular o (p .clock) (p .pairs)
+    → summary four (extendBy o p w .pairs) ≡ nextStamps four (summary four (p .pairs)) (p .clock) (firstOf o) w
+stamps-is four none p w r = refl
+stamps-is four (some first) p w r =
     let h = r .0 in
     let k : p .clock - 1 + 1 ≡ p .clock = omega arith in
-    summary-step (p .clock - 1) first w (p .pairs)
-    ∙ rw (r .2) (ap (λ k. remembered (summary (p .pairs)) k first w) k)
+    summary-step four (p .clock - 1) first w (p .pairs)
+    ∙ rw (r .2) (ap (λ k. remembered four (summary four (p .pairs)) k first w) k)
 
 pub first-is : (o : Option ℕ) (p : Past) (w : ℕ) → Regular o (p .clock) (p .pairs) → firstOf (extendBy o p w .opened) ≡ nextFirst (firstOf o) w
 first-is none p w r = go (opens w)
@@ -95,17 +95,17 @@ clock-is (some first) p w = refl
 abbrev pub run : Timing → Timestamps → ℕ → ℕ → List ℕ → Judgement
 run t s k first [] = accepted
 run t s k first (w ∷ ws) =
-    let rest = run t (nextStamps s k first w) (k + 1) (nextFirst first w) ws in
+    let rest = run t (nextStamps (t .four) s k first w) (k + 1) (nextFirst first w) ws in
     lead (wordBreach t s k first w) k rest
 
 run-from : (t : Timing) (o : Option ℕ) (k : ℕ) (ps : List ClosedPair) (ws : List ℕ) → Regular o k ps
-    → judgeFrom t (record { clock = k; opened = o; pairs = ps }) ws ≡ run t (summary ps) k (firstOf o) ws
+    → judgeFrom t (record { clock = k; opened = o; pairs = ps }) ws ≡ run t (summary (t .four) ps) k (firstOf o) ws
 run-from t o k ps [] r = refl
 run-from t o k ps (w ∷ ws) r =
     let p : Past = record { clock = k; opened = o; pairs = ps } in
     let q = extendBy o p w in
     let rest = run-from t (q .opened) (q .clock) (q .pairs) ws (regular-extend o p w r) in
-    ap₂ (λ n j. lead n k j) (breach-is t o k ps w r) (rest ∙ rw (stamps-is o p w r, clock-is o p w, first-is o p w r))
+    ap₂ (λ n j. lead n k j) (breach-is t o k ps w r) (rest ∙ rw (stamps-is (t .four) o p w r, clock-is o p w, first-is o p w r))
 
 pub run-is : (t : Timing) (ws : List ℕ) → judge t ws ≡ run t never 0 0xC0000 ws
 run-is t ws = run-from t none 0 [] ws tt
@@ -113,10 +113,10 @@ run-is t ws = run-from t none 0 [] ws tt
 -- a run at a place of a list: a word that passes leads on, one that does not ends it, and the list's end accepts
 module _ (t : Timing) (s : Timestamps) (first : ℕ) (ws : List ℕ) (k : ℕ) where
   module _ {w n : ℕ} (inside : k < length ws) (word : w ≡ getD ws k 0) (number : n ≡ wordBreach t s k first w) where
-    at : run t s k first (drop k ws) ≡ lead n k (run t (nextStamps s k first w) (k + 1) (nextFirst first w) (drop (k + 1) ws))
+    at : run t s k first (drop k ws) ≡ lead n k (run t (nextStamps (t .four) s k first w) (k + 1) (nextFirst first w) (drop (k + 1) ws))
     at = ap (run t s k first) (drop-cons ws k 0 inside ∙ ap (λ j. getD ws k 0 ∷ drop j ws) (sym (add-one k))) ∙ rw (number, word)
 
-    pub run-passes : {s₁ : Timestamps} {first₁ : ℕ} → n ≡ 0 → s₁ ≡ nextStamps s k first w → first₁ ≡ nextFirst first w
+    pub run-passes : {s₁ : Timestamps} {first₁ : ℕ} → n ≡ 0 → s₁ ≡ nextStamps (t .four) s k first w → first₁ ≡ nextFirst first w
         → run t s k first (drop k ws) ≡ run t s₁ (k + 1) first₁ (drop (k + 1) ws)
     run-passes e stamps opened = at ∙ rw (e, stamps, opened)
 

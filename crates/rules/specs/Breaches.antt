@@ -8,8 +8,8 @@ use lib.Dec.{eqb, ltb}
 use Rattle.config.specs.declared.Timing.{Timing}
 use Rattle.command.specs.Pins.{high, strayBit}
 use Rattle.command.specs.Pairs.{opens, rda, lal, isRefresh}
+use Rattle.command.specs.Address.{bankOf}
 use Rattle.reading.specs.Reading.{modeWrong, laneReserved}
-use Rattle.command.specs.Pairs.{bankOf}
 use Rattle.rules.specs.Rules.{lowest}
 use Rattle.stamps.specs.declared.Timestamps.{Timestamps}
 
@@ -17,9 +17,9 @@ use Rattle.stamps.specs.declared.Timestamps.{Timestamps}
 abbrev pub near : ℕ → ℕ → ℕ → Bool
 near k c n = not (eqb c 0) && ltb k (c + n)
 
--- the LAL of the last read or write of the bank that a first word names
-abbrev pub bankStamp : Timestamps → ℕ → ℕ
-bankStamp s first = getD (s .banks) (bankOf first) 0
+-- the LAL of the last read or write of the bank that a first word names, with four banks (true) or eight
+abbrev pub bankStamp : Bool → Timestamps → ℕ → ℕ
+bankStamp four s first = getD (s .banks) (bankOf four first) 0
 
 -- the last clock that rule 3 allows, by D and the first so many places of the last REF words, newest first: if m is the highest place that
 -- is not 0, m × D after the REF word there; 0 where all are 0
@@ -65,7 +65,7 @@ closingBreach t s k first second =
     (modeWrong t first second
     ∷ laneReserved t first second
     ∷ (lal second && notReady (s .extended) (s .regular) (getD (s .refs) 1 0) k)
-    ∷ (lal second && near k (bankStamp s first) (t .rc))
+    ∷ (lal second && near k (bankStamp (t .four) s first) (t .rc))
     ∷ tooClose (rda first) (lal second) t (s .read) (s .write) k
     ∷ near k (s .mode) (t .rsc)
     ∷ near k (getD (s .refs) 0 0) (t .refc)

@@ -8,7 +8,8 @@ use lib.ListN.{length, getD}
 use lib.Dec.{eqb, leb, ltb}
 use Rattle.config.specs.declared.Timing.{Timing}
 use Rattle.command.specs.Pins.{high, strayBit}
-use Rattle.command.specs.Pairs.{bankOf, lal, isRead, isWrite, isMode, isRefresh}
+use Rattle.command.specs.Pairs.{lal, isRead, isWrite, isMode, isRefresh}
+use Rattle.command.specs.Address.{bankOf}
 use Rattle.reading.specs.Reading.{modeWrong, laneReserved}
 use Rattle.rules.specs.History.{ClosedPair, Past}
 
@@ -94,10 +95,11 @@ rule6 t ps u first second =
     || not (leb 2 (length (closings wasRefresh ps)))
     || ltb (u - oldest (closings wasExtended ps)) 200)
 
--- rule 7 (RULES 4.7): a read or write too soon after an earlier one of its bank: from t to u less than RC
+-- rule 7 (RULES 4.7): a read or write too soon after an earlier one of its bank, by the sheet's wiring: from t to u less than RC
 abbrev pub rule7 : Timing → List ClosedPair → ℕ → ℕ → ℕ → Bool
 rule7 t ps u first second =
-    lal second && earlier (λ p. wasAccess p && eqb (bankOf (p .first)) (bankOf first) && ltb (u - p .start) (t .rc)) ps
+    let bank = bankOf (t .four) in
+    lal second && earlier (λ p. wasAccess p && eqb (bank (p .first)) (bank first) && ltb (u - p .start) (t .rc)) ps
 
 -- rule 8 (RULES 4.8): a read or write too soon after an earlier one of any bank: from t to u less than RBD; a write after a read, from
 -- its LAL at t + 1 to u less than RWD; a read after a write, from its LAL at t + 1 to u less than WRD

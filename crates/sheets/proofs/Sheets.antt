@@ -5,12 +5,12 @@ use mathlib.Core.Path.{_≡_, refl, sym, _∙_, ap}
 use mathlib.Core.Bool.{Bool, true, false, false≢true}
 use mathlib.Core.List.{List}
 use native.Mathlib.Omega.{arith}
-use borrow.Author.Tests.{eq-eqb, lt-ltb, eqb-true, ltb-true, not-false}
+use borrow.Author.Tests.{eq-eqb, ne-eqb, lt-ltb, eqb-true, ltb-true, not-false}
 use lib.ListN.{length}
 use lib.Dec.{eqb, ltb}
 use Rattle.basics.specs.Outcome.{Outcome, value, refused, require, given}
-use Rattle.basics.proofs.Outcomes.{refused-value, refused-by}
-use Rattle.config.specs.Configuration.{partFits, periodFits, countsFit, refreshFits, derived, timingOf}
+use Rattle.basics.proofs.Outcomes.{refused-by, Not, value-not, require-not}
+use Rattle.config.specs.Configuration.{partFits, wiringFits, periodFits, countsFit, refreshFits, derived, timingOf}
 use Rattle.config.specs.declared.Config.{Config}
 use Rattle.config.specs.declared.Timing.{Timing}
 use Rattle.config.proofs.Bounds.{both}
@@ -22,7 +22,7 @@ use Rattle.protocol.specs.Steps.{refusing, stepBy, stepOf}
 use Rattle.protocol.specs.declared.checker.Checker.{Checker}
 use Rattle.walks.specs.Walk.{staying, examined}
 use Rattle.controller.specs.Steps.{offerBy, tickBy}
-use Rattle.sheets.specs.Sheets.{ShortRefresh, RefusedBy, Sheets}
+use Rattle.sheets.specs.Sheets.{ShortRefresh, Unwired, RefusedBy, Sheets}
 
 -- a call behind a refused one is refused by the same number
 given-refused : {A B : Type 0} {n : ℕ} (x : Outcome A) (f : A → Outcome B) → x ≡ refused n → given x f ≡ refused n
@@ -48,19 +48,14 @@ everywhere c n e =
       tick = λ s h. ap (λ o. tickBy o s) (ap timingOf h ∙ e);
     }
 
--- a row of four tests that refuses by the last number fails at the last test alone
-last-of-four : {A : Type 0} (a b d f : Bool) (x : A) → require a 20 (require b 21 (require d 22 (require f 33 (value x)))) ≡ refused 33
-    → (a ≡ true) × (b ≡ true) × (d ≡ true) × (f ≡ false)
-last-of-four true true true true x e = absurd (refused-value (sym e))
-last-of-four true true true false x e = (refl, refl, refl, refl)
-last-of-four true true false f x e = absurd (refused-by (λ q. omega arith) e)
-last-of-four true false d f x e = absurd (refused-by (λ q. omega arith) e)
-last-of-four false b d f x e = absurd (refused-by (λ q. omega arith) e)
+-- a refusal by n comes from behind a test with another number, and from the one with n if nothing behind that refuses so
+behind : {A : Type 0} (b : Bool) {m n : ℕ} (x : Outcome A) → (m ≡ n → ⊥) → require b m x ≡ refused n → (b ≡ true) × (x ≡ refused n)
+behind true x h e = (refl, e)
+behind false x h e = absurd (refused-by h e)
 
--- and the other way round
-fails-last : {A : Type 0} {a b d f : Bool} (x : A) → a ≡ true → b ≡ true → d ≡ true → f ≡ false
-    → require a 20 (require b 21 (require d 22 (require f 33 (value x)))) ≡ refused 33
-fails-last x p q r s = rw (p, q, r, s)
+fails : {A : Type 0} (b : Bool) {n : ℕ} (x : Outcome A) → Not n x → require b n x ≡ refused n → b ≡ false
+fails true x h e = absurd (h e)
+fails false x h e = refl
 
 -- the test that fails
 below-18 : (c : Config) → c .cl ≡ 4 → c .refc .0 < 18 → refreshFits c ≡ false
@@ -70,19 +65,58 @@ never-accepted : (c : Config) (t : Timing) → c .cl ≡ 4 → c .refc .0 < 18 �
 never-accepted c t is-4 short e = false≢true (sym (below-18 c is-4 short) ∙ accepted c t e .0 .refresh)
 
 short : (c : Config) → ShortRefresh c → timingOf c ≡ refused 33
-short c s = fails-last (derived c) (s .part) (s .period) (s .counts) (below-18 c (s .cl) (s .refc))
+short c s = rw (s .part, s .wiring, s .period, s .counts, below-18 c (s .cl) (s .refc))
 
 only-short : (c : Config) → timingOf c ≡ refused 33 → ShortRefresh c
 only-short c e =
-    let h = last-of-four (partFits c) (periodFits c) (countsFit c) (refreshFits c) (derived c) e in
-    let k = both (eqb (c .cl) 4) (ltb (c .refc .0) 18) (not-false _ (h .3)) in
+    let part = behind (partFits c) _ (λ q. omega arith) e in
+    let wiring = behind (wiringFits c) _ (λ q. omega arith) (part .1) in
+    let period = behind (periodFits c) _ (λ q. omega arith) (wiring .1) in
+    let counts = behind (countsFit c) _ (λ q. omega arith) (period .1) in
+    let refresh = fails (refreshFits c) _ (value-not 33 (derived c)) (counts .1) in
+    let k = both (eqb (c .cl) 4) (ltb (c .refc .0) 18) (not-false _ refresh) in
     record {
-      part = h .0;
-      period = h .1;
-      counts = h .2;
+      part = part .0;
+      wiring = wiring .0;
+      period = period .0;
+      counts = counts .0;
       cl = eqb-true (c .cl) 4 (k .0);
       refc = ltb-true (c .refc .0) 18 (k .1);
     }
 
+neither : (c : Config) → (c .wiring ≡ 4 → ⊥) → (c .wiring ≡ 8 → ⊥) → wiringFits c ≡ false
+neither c four eight = rw (ne-eqb (c .wiring) 8 eight, ne-eqb (c .wiring) 4 four)
+
+never-unwired : (c : Config) (t : Timing) → timingOf c ≡ value t → (c .wiring ≡ 4 → ⊥) → (c .wiring ≡ 8 → ⊥) → ⊥
+never-unwired c t e four eight = false≢true (sym (neither c four eight) ∙ accepted c t e .0 .wiring)
+
+unwired : (c : Config) → Unwired c → timingOf c ≡ refused 34
+unwired c u = rw (u .part, neither c (u .four) (u .eight))
+
+only-unwired : (c : Config) → timingOf c ≡ refused 34 → Unwired c
+only-unwired c e =
+    let part = behind (partFits c) _ (λ q. omega arith) e in
+    let later : Not 34 _ =
+    require-not (periodFits c) 21 34 _ (λ q. omega arith)
+    (require-not (countsFit c) 22 34 _ (λ q. omega arith)
+    (require-not (refreshFits c) 33 34 _ (λ q. omega arith) (value-not 34 (derived c)))) in
+    let wiring = fails (wiringFits c) _ later (part .1) in
+    record {
+      part = part .0;
+      four = λ h. false≢true (sym wiring ∙ rw h);
+      eight = λ h. false≢true (sym wiring ∙ rw h);
+    }
+
 pub sheets : Sheets
-sheets = record { never-accepted = never-accepted; short = short; only-short = only-short; everywhere = everywhere }
+sheets =
+    record {
+      never-accepted = never-accepted;
+      short = short;
+      only-short = only-short;
+      never-unwired = never-unwired;
+      unwired = unwired;
+      only-unwired = only-unwired;
+      institute-has-eight = refl;
+      ten-have-eight = λ grade cl bl organisation period rbd rwd wrd rsc refc. refl;
+      everywhere = everywhere;
+    }

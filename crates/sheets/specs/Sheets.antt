@@ -1,10 +1,11 @@
--- Refused sheets: every call that tests one refuses it as `Config::timing` does, and changes nothing; and which sheets 33 is for.
+-- Refused sheets: every call that tests one refuses it as `Config::timing` does, and changes nothing; which sheets 33 and 34 are for; and a
+-- sheet without its wiring has eight banks.
 use Prim.Native.Nat.{ℕ, _<_}
 use mathlib.Core.Path.{_≡_}
 use mathlib.Core.Bool.{true}
 use mathlib.Core.List.{List}
 use Rattle.basics.specs.Outcome.{value, refused}
-use Rattle.config.specs.Configuration.{partFits, periodFits, countsFit, timingOf}
+use Rattle.config.specs.Configuration.{partFits, wiringFits, periodFits, countsFit, timingOf, institute, configOf}
 use Rattle.config.specs.declared.Config.{Config}
 use Rattle.config.specs.declared.Timing.{Timing}
 use Rattle.command.specs.declared.operation.Operation.{Operation}
@@ -23,10 +24,17 @@ use Rattle.controller.specs.declared.Controller.{Controller}
 -- no number before 33 applies, CL is 4 and REFC is below 18 (RULES 6.33)
 pub record ShortRefresh (c : Config) : Type 0 where
   pub part : partFits c ≡ true
+  pub wiring : wiringFits c ≡ true
   pub period : periodFits c ≡ true
   pub counts : countsFit c ≡ true
   pub cl : c .cl ≡ 4
   pub refc : c .refc .0 < 18
+
+-- no number before 34 applies, and the wiring is neither 4 nor 8 (RULES 6.34)
+pub record Unwired (c : Config) : Type 0 where
+  pub part : partFits c ≡ true
+  pub four : c .wiring ≡ 4 → ⊥
+  pub eight : c .wiring ≡ 8 → ⊥
 
 -- the sheet is refused by n by every call that tests one, handed over or inside a state, whatever else is there; the state stays
 pub record RefusedBy (n : ℕ) (c : Config) : Type 0 where
@@ -49,5 +57,13 @@ pub record Sheets : Type 0 where
   -- 33 is for the sheets of that sort that no earlier number applies to, and for no other
   pub short : (c : Config) → ShortRefresh c → timingOf c ≡ refused 33
   pub only-short : (c : Config) → timingOf c ≡ refused 33 → ShortRefresh c
+  -- no sheet with another wiring than 4 and 8 is accepted, and 34 is for those that 20 is not for (RULES 1.6)
+  pub never-unwired : (c : Config) (t : Timing) → timingOf c ≡ value t → (c .wiring ≡ 4 → ⊥) → (c .wiring ≡ 8 → ⊥) → ⊥
+  pub unwired : (c : Config) → Unwired c → timingOf c ≡ refused 34
+  pub only-unwired : (c : Config) → timingOf c ≡ refused 34 → Unwired c
+  -- sheet E has eight banks, and so has every sheet of ten numbers
+  pub institute-has-eight : institute .wiring ≡ 8
+  pub ten-have-eight : (grade cl bl organisation period rbd rwd wrd rsc refc : ℕ)
+      → configOf grade cl bl organisation period rbd rwd wrd rsc refc .wiring ≡ 8
   -- by whatever number a sheet is refused
   pub everywhere : (c : Config) (n : ℕ) → timingOf c ≡ refused n → RefusedBy n c

@@ -6,7 +6,8 @@ use mathlib.Core.List.{List, [], _∷_}
 use lib.ListN.{getD, set}
 use lib.Dec.{eqb}
 use Rattle.command.specs.Pins.{high}
-use Rattle.command.specs.Pairs.{opens, rda, lal, bankOf}
+use Rattle.command.specs.Pairs.{opens, rda, lal}
+use Rattle.command.specs.Address.{bankOf}
 use Rattle.stamps.specs.declared.Timestamps.{Timestamps}
 
 -- what is kept once a read or write has closed at k
@@ -61,15 +62,15 @@ withRefresh s k =
       refs = shifted k (s .refs);
     }
 
--- what is kept once any pair has closed at k
-abbrev pub remembered : Timestamps → ℕ → ℕ → ℕ → Timestamps
-remembered s k first second =
-    cond (lal second) (withAccess s k (rda first) (bankOf first))
+-- what is kept once any pair has closed at k, with four banks (true) or eight
+abbrev pub remembered : Bool → Timestamps → ℕ → ℕ → ℕ → Timestamps
+remembered four s k first second =
+    cond (lal second) (withAccess s k (rda first) (bankOf four first))
     (cond (rda first) (withMode s k (high 14 second)) (withRefresh s k))
 
 -- what is kept after any word
-abbrev pub nextStamps : Timestamps → ℕ → ℕ → ℕ → Timestamps
-nextStamps s k first w = cond (opens first) (remembered s k first w) s
+abbrev pub nextStamps : Bool → Timestamps → ℕ → ℕ → ℕ → Timestamps
+nextStamps four s k first w = cond (opens first) (remembered four s k first w) s
 
 -- the first word of the pair that is open after any word, or DESL
 abbrev pub nextFirst : ℕ → ℕ → ℕ

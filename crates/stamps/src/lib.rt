@@ -1,5 +1,6 @@
 // What is kept of the past: the clock of each event's closing word, 0 for never.
 use basics::choose;
+use command::address::bank;
 use command::pins::BA0;
 use command::pins::CS;
 use command::pins::FN;
@@ -94,14 +95,14 @@ impl Timestamps {
         }
     }
 
-    // What is kept once a pair has closed at this clock.
-    pub fn remembered(self, clock: u32, first: u32, second: u32) -> Timestamps
-        ensures { λ r. ⌜ r ≡ remembered self clock first second ⌝ }
+    // What is kept once a pair has closed at this clock, with four banks or eight.
+    pub fn remembered(self, four: bool, clock: u32, first: u32, second: u32) -> Timestamps
+        ensures { λ r. ⌜ r ≡ remembered four self clock first second ⌝ }
     {
         let rda = high(first, FN);
         let lal = high(second, CS);
         if lal {
-            return self.with_access(clock, rda, (first / BA0 % 8) as usize);
+            return self.with_access(clock, rda, bank(four, first) as usize);
         }
         if rda {
             self.with_mode(clock, high(second, BA0))
@@ -111,12 +112,12 @@ impl Timestamps {
     }
 
     // What is kept after a word, where `first` is the word of the open pair, or one with CS high where none is open.
-    pub fn after(self, clock: u32, first: u32, word: u32) -> Timestamps
-        ensures { λ r. ⌜ r ≡ nextStamps self clock first word ⌝ }
+    pub fn after(self, four: bool, clock: u32, first: u32, word: u32) -> Timestamps
+        ensures { λ r. ⌜ r ≡ nextStamps four self clock first word ⌝ }
     {
         let opened = !high(first, CS);
         if opened {
-            self.remembered(clock, first, word)
+            self.remembered(four, clock, first, word)
         } else {
             self
         }

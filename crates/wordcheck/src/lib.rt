@@ -21,6 +21,7 @@ fn judged(timing: Timing, words: &[u32]) -> Verdict
     requires { ⌜ length (now words) ≤ 16777216 ⌝ }
     ensures { λ r. ⌜ verdictOutcome r ≡ value (judge timing (now (words .entry))) ⌝ }
 {
+    let figures = timing.figures();
     let mut stamps = Timestamps::never();
     let mut first = DESL;
     let mut clock: u32 = 0;
@@ -30,7 +31,7 @@ fn judged(timing: Timing, words: &[u32]) -> Verdict
         if number != 0 {
             return Verdict::InBreach(Breach { clock, number });
         }
-        stamps = stamps.after(clock, first, word);
+        stamps = stamps.after(figures.four, clock, first, word);
         first = next_first(first, word);
         clock += 1;
     }

@@ -7,6 +7,7 @@ use Rattle.config.specs.Configuration.{timingOf}
 use Rattle.config.specs.declared.Config.{Config}
 use Rattle.config.specs.declared.Timing.{Timing}
 use Rattle.command.specs.Pins.{put, drive}
+use Rattle.command.specs.Address.{addressFits, addressAt}
 use Rattle.command.specs.declared.operation.Request.{Request}
 use Rattle.command.specs.declared.operation.Operation.{Operation}
 use Rattle.command.specs.declared.operation.Operation.the-variants.{Access, Regular, Extended, Refresh}
@@ -24,11 +25,10 @@ lanesFit t r =
     && (eqb (t .organisation) 16 && laneFits t (r .upper) || not (eqb (t .organisation) 16) && eqb (r .upper) 0)
     || not (r .write) && (eqb (r .lower) 0 && eqb (r .upper) 0)
 
--- each field of a request: bank, row, column, which by 8 has one pin more, and lanes (RULES 3.2)
+-- each field of a request: bank and row, column, which by 8 has one pin more, and lanes (RULES 3.2)
 abbrev pub requestFits : Timing → Request → Bool
 requestFits t r =
-    leb (r .bank) 7
-    && leb (r .row) 16383
+    addressFits (t .four) (r .bank) (r .row)
     && (leb (r .column) 255 || not (eqb (t .organisation) 16) && leb (r .column) 511)
     && lanesFit t r
 
@@ -47,7 +47,7 @@ laneAt t vw0 vw1 n = drive vw0 (not (eqb n 2)) + drive vw1 (eqb (t .bl) 4 && not
 abbrev pub accessPair : Timing → Request → Pair
 accessPair t r =
     record {
-      first = 2 ^ 19 + drive 17 (not (r .write)) + put 14 3 (r .bank) + put 0 14 (r .row);
+      first = 2 ^ 19 + drive 17 (not (r .write)) + addressAt (t .four) (r .bank) (r .row);
       second =
           2 ^ 19
           + 2 ^ 18

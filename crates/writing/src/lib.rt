@@ -3,6 +3,8 @@ use basics::Refusal;
 use command::Operation;
 use command::Pair;
 use command::Request;
+use command::address::address;
+use command::address::address_fits;
 use command::pins::A0;
 use command::pins::A1;
 use command::pins::A3;
@@ -47,8 +49,7 @@ pub fn request_fits(timing: Timing, request: Request) -> bool
     let upper_fits = (upper == 1) | (upper == 2) | long & (upper == 4);
     let lanes = request.write & lower_fits & (wide & upper_fits | !wide & (upper == 0))
         | !request.write & ((lower == 0) & (upper == 0));
-    (request.bank <= 7)
-        & (request.row <= 16383)
+    address_fits(figures.four, request.bank, request.row)
         & ((request.column <= 255) | !wide & (request.column <= 511))
         & lanes
 }
@@ -85,7 +86,7 @@ fn access(timing: Timing, request: Request) -> Pair
     let lower = lane(request.write, long, request.lower, BA2, A13);
     let upper = lane(request.write & wide, long, request.upper, A12, A11);
     Pair {
-        first: PD + bit(!request.write) * FN + request.bank % 8 * BA0 + request.row % 16384 * A0,
+        first: PD + bit(!request.write) * FN + address(figures.four, request.bank, request.row),
         second: PD + CS + request.column % 512 * A0 + lower + upper,
     }
 }

@@ -10,6 +10,9 @@ figures-requires c κs = search needs
 high-requires : tie.Need-high-requires
 high-requires c κs = search needs
 
+bank-requires : tie.Need-bank-requires
+bank-requires c κs = search needs
+
 cast-bank : tie.Need-cast-bank
 cast-bank c = search needs
 
@@ -65,7 +68,7 @@ returns : tie.Need-returns
 returns c =
     let tested = c .before .before .before .before .before .before in
     let reserved = tested .before .before .before .before .before in
-    let opening = reserved .before .before .before in
+    let opening = reserved .before .before .before .before in
     let figures = opening .before .figures .ensures in
     let begun = opening .before .before in
     let a = begun .args in
@@ -73,7 +76,7 @@ returns c =
     (at-lal (a .timing) (a .stamps) (a .clock) (a .first) (a .second) (begun .pre)
     (reserved .lane-reserved .ensures)
     (tested .before .before .before .before .unready .ensures)
-    (rw figures at (tested .before .before .before .near .ensures))
+    (rw (reserved .before .bank .ensures .0, figures) at (tested .before .before .before .near .ensures))
     (rw (opening .high .ensures) at (tested .before .before .too-close .ensures))
     (rw figures at (tested .before .near2 .ensures))
     (rw figures at (tested .near3 .ensures)))
@@ -84,6 +87,7 @@ access-breach-spec =
     (tie.spec
     figures-requires
     high-requires
+    bank-requires
     cast-bank
     lane-reserved-requires
     array-read-unready

@@ -19,18 +19,18 @@ use Rattle.bytecheck.proofs.judged_bytes.Statement.{statement}
 use Rattle.bytecheck.proofs.judged_bytes.Tie as tie
 
 abbrev Inv-loop : tie.InvT-loop
-Inv-loop timing bytes place₀ place = judge timing (wordsOf bytes) ≡ runFrom timing (wordsOf bytes) place
+Inv-loop timing bytes figures place₀ place = judge timing (wordsOf bytes) ≡ runFrom timing (wordsOf bytes) place
 
 abbrev μ-loop : tie.MeasureT-loop
-μ-loop timing bytes place₀ place = length bytes / 4 - place .clock
+μ-loop timing bytes figures place₀ place = length bytes / 4 - place .clock
 
 -- where the skimming ends
 module _ (c : tie.After-skimmed Inv-loop μ-loop) where
   abbrev timing : Timing
-  timing = c .before .before .before .before .before .before .args .timing
+  timing = c .before .before .before .before .before .before .before .args .timing
 
   abbrev bytes : List ℕ
-  bytes = now (c .before .before .before .before .before .before .args .bytes)
+  bytes = now (c .before .before .before .before .before .before .before .args .bytes)
 
   abbrev place : Place
   place = c .skimmed .result
@@ -58,7 +58,7 @@ passes c =
     record {
       inside = inside w;
       sound = rw (← word w, ← tested .word-breach .ensures) (c .before .if3 .left);
-      leads = rw (← word w) (c .after .ensures);
+      leads = rw (← word w) (rw (at w .before .before .before .before .before .figures .ensures) at (c .after .ensures));
     }
 
 -- at the end of the words
@@ -66,12 +66,15 @@ ends : (t : Timing) (bytes : List ℕ) (p : Place) → judge t (wordsOf bytes) �
     → length bytes / 4 ≤ p .clock → value accepted ≡ value (judge t (wordsOf bytes))
 ends t bytes p e h = ap value (sym (e ∙ run-ends t (p .stamps) (p .first) (wordsOf bytes) (p .clock) (rw (words-length bytes) h)))
 
+figures-requires : tie.Need-figures-requires Inv-loop μ-loop
+figures-requires c κs = search needs
+
 start-requires : tie.Need-start-requires Inv-loop μ-loop
 start-requires c κs = search needs
 
 loop-holds : tie.Need-loop-holds Inv-loop μ-loop
 loop-holds c =
-    let a = c .before .before .args in
+    let a = c .before .before .before .args in
     rw (c .start .ensures) (run-is (a .timing) (wordsOf (now (a .bytes))))
 
 cast-if1 : tie.Need-cast-if1 Inv-loop μ-loop
@@ -116,7 +119,7 @@ loop-again c =
 returns-2 : tie.Need-returns-2 Inv-loop μ-loop
 returns-2 c =
     let l = c .before .before in
-    let a = l .before .before .before .args in
+    let a = l .before .before .before .before .args in
     ends (a .timing) (now (a .bytes)) (l .loop .place) (l .loop .inv) (c .if1 .left)
 
 returns-3 : tie.Need-returns-3 Inv-loop μ-loop
@@ -128,6 +131,7 @@ judged-bytes-spec =
     (tie.spec
     Inv-loop
     μ-loop
+    figures-requires
     start-requires
     loop-holds
     cast-if1

@@ -24,6 +24,12 @@ high-requires-4 c κs = search needs
 lane-requires-2 : tie.Need-lane-requires-2
 lane-requires-2 c κs = search needs
 
+bank-requires : tie.Need-bank-requires
+bank-requires c κs = search needs
+
+row-requires : tie.Need-row-requires
+row-requires c κs = search needs
+
 column-requires : tie.Need-column-requires
 column-requires c κs = search needs
 
@@ -34,8 +40,9 @@ kept-requires-2 : tie.Need-kept-requires-2
 kept-requires-2 c κs = search needs
 
 returns : tie.Need-returns
-returns c = rw
-    (c .kept2 .ensures .0, c .before .kept .ensures .0, c .before .before .column .ensures, c .before .before .before .lane2 .ensures, c .before .before .before .before .high4 .ensures, c .before .before .before .before .before .high3 .ensures, c .before .before .before .before .before .before .lane .ensures, c .before .before .before .before .before .before .before .high2 .ensures, c .before .before .before .before .before .before .before .before .high .ensures, c .before .before .before .before .before .before .before .before .before .before .before .figures .ensures)
+returns c =
+    rw
+    (c .kept2 .ensures .0, c .before .kept .ensures .0, c .before .before .column .ensures, c .before .before .before .row .ensures, c .before .before .before .before .bank .ensures .0, c .before .before .before .before .before .lane2 .ensures, c .before .before .before .before .before .before .high4 .ensures, c .before .before .before .before .before .before .before .high3 .ensures, c .before .before .before .before .before .before .before .before .lane .ensures, c .before .before .before .before .before .before .before .before .before .high2 .ensures, c .before .before .before .before .before .before .before .before .before .before .high .ensures, c .before .before .before .before .before .before .before .before .before .before .before .before .before .figures .ensures)
 
 pub access-spec : {M : Type 1} → statement M
 access-spec =
@@ -48,6 +55,8 @@ access-spec =
     high-requires-3
     high-requires-4
     lane-requires-2
+    bank-requires
+    row-requires
     column-requires
     kept-requires
     kept-requires-2

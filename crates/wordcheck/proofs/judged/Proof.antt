@@ -12,17 +12,22 @@ use Rattle.wordcheck.proofs.judged.Statement.{statement}
 use Rattle.wordcheck.proofs.judged.Tie as tie
 
 abbrev Inv-loop : tie.InvT-loop
-Inv-loop timing words stamps₀ first₀ clock₀ stamps first clock =
+Inv-loop timing words figures stamps₀ first₀ clock₀ stamps first clock =
     (clock ≤ length words) × (judge timing words ≡ run timing stamps clock first (drop clock words))
 
 abbrev μ-loop : tie.MeasureT-loop
-μ-loop timing words stamps₀ first₀ clock₀ stamps first clock = length words - clock
+μ-loop timing words figures stamps₀ first₀ clock₀ stamps first clock = length words - clock
+
+figures-requires : tie.Need-figures-requires Inv-loop μ-loop
+figures-requires c κs = search needs
 
 never-requires : tie.Need-never-requires Inv-loop μ-loop
 never-requires c κs = search needs
 
 loop-holds : tie.Need-loop-holds Inv-loop μ-loop
-loop-holds c = (search needs, rw (c .never .ensures) (run-is (c .before .before .args .timing) (now (c .before .before .args .words))))
+loop-holds c =
+    let a = c .before .before .before .args in
+    (search needs, rw (c .never .ensures) (run-is (a .timing) (now (a .words))))
 
 cast-loop : tie.Need-cast-loop Inv-loop μ-loop
 cast-loop c = search needs
@@ -42,7 +47,7 @@ word-breach-requires c κs = search needs
 returns : tie.Need-returns Inv-loop μ-loop
 returns c =
     let l = c .before .before .before .before .loop in
-    let a = c .before .before .before .before .before .before .before .args in
+    let a = c .before .before .before .before .before .before .before .before .args in
     ap value (sym (l .inv .1 ∙ run-breaches (a .timing) (l .stamps) (l .first) (now (a .words)) (l .clock) (c .before .before .before .loop-test .taken) refl (c .before .word-breach .ensures) (c .if1 .taken)))
 
 after-requires : tie.Need-after-requires Inv-loop μ-loop
@@ -61,16 +66,17 @@ loop-again : tie.Need-loop-again Inv-loop μ-loop
 loop-again c =
     let w = c .before .before .before in
     let l = w .before .before .before .loop in
-    let a = w .before .before .before .before .before .before .args in (
+    let figures = w .before .before .before .before .before .figures .ensures in
+    let a = w .before .before .before .before .before .before .before .args in (
       omega arith,
       l .inv .1
-          ∙ run-passes (a .timing) (l .stamps) (l .first) (now (a .words)) (l .clock) (w .before .before .loop-test .taken) refl (w .word-breach .ensures) (c .before .before .if1 .left) (c .before .after .ensures) (c .next-first .ensures),
+          ∙ run-passes (a .timing) (l .stamps) (l .first) (now (a .words)) (l .clock) (w .before .before .loop-test .taken) refl (w .word-breach .ensures) (c .before .before .if1 .left) (rw figures at (c .before .after .ensures)) (c .next-first .ensures),
     )
 
 returns-2 : tie.Need-returns-2 Inv-loop μ-loop
 returns-2 c =
     let l = c .before .loop in
-    let a = c .before .before .before .before .args in
+    let a = c .before .before .before .before .before .args in
     ap value (sym (l .inv .1 ∙ run-ends (a .timing) (l .stamps) (l .first) (now (a .words)) (l .clock) (c .loop-test .left)))
 
 pub judged-spec : {M : Type 1} → statement M
@@ -79,6 +85,7 @@ judged-spec =
     (tie.spec
     Inv-loop
     μ-loop
+    figures-requires
     never-requires
     loop-holds
     cast-loop

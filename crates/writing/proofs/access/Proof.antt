@@ -22,8 +22,11 @@ mul-t10 c = omega arith
 add-t11 : tie.Need-add-t11
 add-t11 c = omega arith
 
-mul-t13 : tie.Need-mul-t13
-mul-t13 c = omega arith
+address-requires : tie.Need-address-requires
+address-requires c κs = search needs
+
+add-t13 : tie.Need-add-t13
+add-t13 c = omega arith
 
 add-t14 : tie.Need-add-t14
 add-t14 c = omega arith
@@ -37,22 +40,13 @@ add-t17 c = omega arith
 add-t18 : tie.Need-add-t18
 add-t18 c = omega arith
 
-mul-t20 : tie.Need-mul-t20
-mul-t20 c = omega arith
-
-add-t21 : tie.Need-add-t21
-add-t21 c = omega arith
-
-add-t22 : tie.Need-add-t22
-add-t22 c = omega arith
-
-add-t23 : tie.Need-add-t23
-add-t23 c = omega arith
+add-t19 : tie.Need-add-t19
+add-t19 c = omega arith
 
 returns : tie.Need-returns
 returns c =
-    let driven = c .before .before .before in
-    rw (driven .bit .ensures .0, driven .before .before .lane2 .ensures .0, driven .before .before .before .before .lane .ensures .0, driven .before .before .before .before .before .before .before .figures .ensures)
+    rw
+    (c .before .address .ensures .0, c .before .before .bit .ensures .0, c .before .before .before .before .lane2 .ensures .0, c .before .before .before .before .before .before .lane .ensures .0, c .before .before .before .before .before .before .before .before .before .figures .ensures)
 
 pub access-spec : {M : Type 1} → statement M
 access-spec =
@@ -64,13 +58,11 @@ access-spec =
     bit-requires
     mul-t10
     add-t11
-    mul-t13
+    address-requires
+    add-t13
     add-t14
     mul-t16
     add-t17
     add-t18
-    mul-t20
-    add-t21
-    add-t22
-    add-t23
+    add-t19
     returns)

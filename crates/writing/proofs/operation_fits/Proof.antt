@@ -22,13 +22,13 @@ returns : tie.Need-returns
 returns c = rw (c .request-fits .ensures, c .before .before .operation .given .1)
 
 returns-2 : tie.Need-returns-2
-returns-2 c = search needs
+returns-2 c = rw (c .enum-told .given .1)
 
 returns-3 : tie.Need-returns-3
 returns-3 c = rw (c .before .operation2 .given .1)
 
 returns-4 : tie.Need-returns-4
-returns-4 c = search needs
+returns-4 c = rw (c .enum-told2 .given .1)
 
 pub operation-fits-spec : {M : Type 1} → statement M
 operation-fits-spec =

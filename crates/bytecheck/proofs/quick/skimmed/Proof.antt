@@ -29,12 +29,12 @@ record Skimming (t : Timing) (bytes : List ℕ) (from at : Place) (end settled :
   calm : SettledFrom t (at .stamps) settled
 
 abbrev Inv-loop : tie.InvT-loop
-Inv-loop timing bytes stamps₀ first₀ clock₀ end settled stamps first clock =
+Inv-loop timing bytes stamps₀ first₀ clock₀ figures end settled stamps first clock =
     Skimming timing bytes (record { clock = clock₀; first = first₀; stamps = stamps₀ })
     (record { clock = clock; first = first; stamps = stamps }) end settled
 
 abbrev μ-loop : tie.MeasureT-loop
-μ-loop timing bytes stamps₀ first₀ clock₀ end settled stamps first clock = end - clock
+μ-loop timing bytes stamps₀ first₀ clock₀ figures end settled stamps first clock = end - clock
 
 -- where a turn starts
 module _ (l : tie.At-loop Inv-loop μ-loop) where
@@ -91,17 +91,19 @@ idle c =
     (sym (high .high .ensures) ∙ c .before .if2 .taken) (c .next-first .ensures)
 
 access : (c : tie.After-choose2 Inv-loop μ-loop) → let tested = c .before .before .before in
-    let l = from (tested .before .before .before .before .before .before .before) in
-    Passes (timing l) (wordsOf (bytes l)) (place l) (accessed (place l) (c .before .choose .result) (c .choose2 .result))
+    let l = from (tested .before .before .before .before .before .before .before .before) in
+    Passes (timing l) (wordsOf (bytes l)) (place l) (accessed (tested .before .before .before .bank .result) (place l) (c .before .choose .result) (c .choose2 .result))
 access c =
     let rda = c .before .before in
     let tested = rda .before in
-    let settled = tested .before .before .before in
+    let settled = tested .before .before .before .before in
     let high = settled .before .before in
     let w = high .before .before in
     let l = from w in
     access-passes (timing l) (wordsOf (bytes l)) (place l) (inside w) (word w) (early (high .before))
-    (sym (high .high .ensures) ∙ settled .before .if2 .left) (calm settled)
+    (sym (high .high .ensures) ∙ settled .before .if2 .left)
+    (rw (l .before .before .before .before .before .figures .ensures) at (tested .before .before .before .bank .ensures .0))
+    (calm settled)
     (tested .before .clear .ensures (not-false _ (tested .if4 .left)))
     (rw (rda .high2 .ensures) at (c .before .choose .ensures))
     (rw (rda .high2 .ensures) at (c .choose2 .ensures))
@@ -165,6 +167,9 @@ loop-again c =
 cast-if3 : tie.Need-cast-if3 Inv-loop μ-loop
 cast-if3 c = search needs
 
+bank-requires : tie.Need-bank-requires Inv-loop μ-loop
+bank-requires c κs = search needs
+
 cast-bank : tie.Need-cast-bank Inv-loop μ-loop
 cast-bank c = search needs
 
@@ -201,7 +206,7 @@ loop-less-2 c = omega arith
 loop-again-2 : tie.Need-loop-again-2 Inv-loop μ-loop
 loop-again-2 c =
     let tested = c .before .before .before in
-    let w = tested .before .before .before .before .before .before .before in
+    let w = tested .before .before .before .before .before .before .before .before in
     let inv = from w .loop .inv in
     record {
       fits = omega (arith, low w);
@@ -223,7 +228,7 @@ returns-3 : tie.Need-returns-3 Inv-loop μ-loop
 returns-3 c = from (c .before .before .before .before) .loop .inv .passed
 
 returns-4 : tie.Need-returns-4 Inv-loop μ-loop
-returns-4 c = from (c .before .before .before .before .before .before .before) .loop .inv .passed
+returns-4 c = from (c .before .before .before .before .before .before .before .before) .loop .inv .passed
 
 pub skimmed-spec : {M : Type 1} → statement M
 skimmed-spec =
@@ -246,6 +251,7 @@ skimmed-spec =
     loop-less
     loop-again
     cast-if3
+    bank-requires
     cast-bank
     mul-choose
     element-copy-out-choose

@@ -5,6 +5,15 @@ use borrow.Author.Needs.{needs}
 use Rattle.config.proofs.Config.derived.Statement.{statement}
 use Rattle.config.proofs.Config.derived.Tie as tie
 
+div-refi : tie.Need-div-refi
+div-refi c = search needs
+
+div-window : tie.Need-div-window
+div-window c = search needs
+
+add-window : tie.Need-add-window
+add-window c = omega (arith, div-le-self 3200000 (c .before .before .args .self .period .0))
+
 choose-requires : tie.Need-choose-requires
 choose-requires c κs = search needs
 
@@ -26,23 +35,17 @@ larger-requires-3 c κs = search needs
 sub-t7 : tie.Need-sub-t7
 sub-t7 c = search needs
 
-div-t6 : tie.Need-div-t6
-div-t6 c = search needs
-
-div-t8 : tie.Need-div-t8
-div-t8 c = search needs
-
-add-t9 : tie.Need-add-t9
-add-t9 c = omega (arith, div-le-self 3200000 (c .before .before .before .before .before .before .before .before .before .before .args .self .period .0))
-
 returns : tie.Need-returns
 returns c =
-    rw (c .before .before .before .larger3 .ensures, c .before .before .before .before .larger2 .ensures, c .before .before .before .before .before .larger .ensures, c .before .before .before .before .before .before .before .before .choose .ensures)
+    rw (c .before .before .larger3 .ensures, c .before .before .before .larger2 .ensures, c .before .before .before .before .larger .ensures, c .before .before .before .before .before .before .before .choose .ensures)
 
 pub derived-spec : {M : Type 1} → statement M
 derived-spec =
     tie.close
     (tie.spec
+    div-refi
+    div-window
+    add-window
     choose-requires
     add-larger
     add-larger-2
@@ -50,7 +53,4 @@ derived-spec =
     larger-requires-2
     larger-requires-3
     sub-t7
-    div-t6
-    div-t8
-    add-t9
     returns)

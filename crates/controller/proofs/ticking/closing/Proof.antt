@@ -19,8 +19,11 @@ pair-words-requires c κs = search needs
 of-oldest-requires : tie.Need-of-oldest-requires
 of-oldest-requires c κs = search needs
 
-add-t15 : tie.Need-add-t15
-add-t15 c = search needs
+figures-requires : tie.Need-figures-requires
+figures-requires c κs = search needs
+
+add-t16 : tie.Need-add-t16
+add-t16 c = search needs
 
 remembered-requires : tie.Need-remembered-requires
 remembered-requires c κs = search needs
@@ -33,8 +36,9 @@ count-left-requires c κs = search needs
 
 returns : tie.Need-returns
 returns c =
-    let o = c .before .before .before in
-    rw (c .count-left .ensures, c .before .requests-left .ensures, c .before .before .remembered .ensures, o .of-oldest .ensures, ← words (o .before))
+    let f = c .before .before .before in
+    let o = f .before in
+    rw (c .count-left .ensures, c .before .requests-left .ensures, c .before .before .remembered .ensures, f .figures .ensures, o .of-oldest .ensures, ← words (o .before))
 
 pub closing-spec : {M : Type 1} → statement M
 closing-spec =
@@ -43,7 +47,8 @@ closing-spec =
     array-copy-out-pair-words
     pair-words-requires
     of-oldest-requires
-    add-t15
+    figures-requires
+    add-t16
     remembered-requires
     requests-left-requires
     count-left-requires

@@ -25,6 +25,9 @@ high-requires c κs = search needs
 high-requires-2 : tie.Need-high-requires-2
 high-requires-2 c κs = search needs
 
+bank-requires : tie.Need-bank-requires
+bank-requires c κs = search needs
+
 cast-with-access : tie.Need-cast-with-access
 cast-with-access c = search needs
 
@@ -32,7 +35,7 @@ with-access-requires : tie.Need-with-access-requires
 with-access-requires c κs = search needs
 
 returns : tie.Need-returns
-returns c = rw (c .with-access .ensures, is-lal (c .before), c .before .before .before .high .ensures)
+returns c = rw (c .with-access .ensures, c .before .bank .ensures .0, is-lal (c .before .before), c .before .before .before .before .high .ensures)
 
 high-requires-3 : tie.Need-high-requires-3
 high-requires-3 c κs = search needs
@@ -55,6 +58,7 @@ remembered-spec =
     (tie.spec
     high-requires
     high-requires-2
+    bank-requires
     cast-with-access
     with-access-requires
     returns

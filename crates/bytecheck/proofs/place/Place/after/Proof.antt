@@ -3,8 +3,8 @@ use borrow.Author.Needs.{needs}
 use Rattle.bytecheck.proofs.place.Place.after.Statement.{statement}
 use Rattle.bytecheck.proofs.place.Place.after.Tie as tie
 
-add-t6 : tie.Need-add-t6
-add-t6 c = search needs
+add-t7 : tie.Need-add-t7
+add-t7 c = search needs
 
 next-first-requires : tie.Need-next-first-requires
 next-first-requires c κs = search needs
@@ -16,4 +16,4 @@ returns : tie.Need-returns
 returns c = rw (c .before .next-first .ensures, c .after .ensures)
 
 pub after-spec : {M : Type 1} → statement M
-after-spec = tie.close (tie.spec add-t6 next-first-requires after-requires returns)
+after-spec = tie.close (tie.spec add-t7 next-first-requires after-requires returns)

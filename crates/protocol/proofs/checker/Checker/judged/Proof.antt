@@ -7,8 +7,11 @@ use Rattle.protocol.proofs.checker.Checker.judged.Tie as tie
 word-breach-requires : tie.Need-word-breach-requires
 word-breach-requires c κs = search needs
 
-add-t13 : tie.Need-add-t13
-add-t13 c = search needs
+figures-requires : tie.Need-figures-requires
+figures-requires c κs = search needs
+
+add-t14 : tie.Need-add-t14
+add-t14 c = search needs
 
 next-first-requires : tie.Need-next-first-requires
 next-first-requires c κs = search needs
@@ -17,7 +20,9 @@ after-requires : tie.Need-after-requires
 after-requires c κs = search needs
 
 returns : tie.Need-returns
-returns c = rw (← c .before .before .before .word-breach .ensures, eq-eqb (c .before .before .before .word-breach .result) 0 (c .before .before .if1 .taken), c .after .ensures, c .before .next-first .ensures)
+returns c =
+    let found = c .before .before .before .before .word-breach in
+    rw (← found .ensures, eq-eqb (found .result) 0 (c .before .before .before .if1 .taken), c .after .ensures, c .before .next-first .ensures, c .before .before .figures .ensures)
 
 returns-2 : tie.Need-returns-2
 returns-2 c = rw (← c .before .word-breach .ensures, ne-eqb (c .before .word-breach .result) 0 (c .if1 .left))
@@ -25,4 +30,4 @@ returns-2 c = rw (← c .before .word-breach .ensures, ne-eqb (c .before .word-b
 pub judged-spec : {M : Type 1} → statement M
 judged-spec =
     tie.close
-    (tie.spec word-breach-requires add-t13 next-first-requires after-requires returns returns-2)
+    (tie.spec word-breach-requires figures-requires add-t14 next-first-requires after-requires returns returns-2)
