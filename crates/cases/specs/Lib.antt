@@ -1,3 +1,4 @@
--- The paper's cases, and the edges of rule 3, as one table.
+-- The paper's cases, the edges of rule 3, and the wiring, as one table.
 pub mod CheckerCases
+pub mod WiringCases
 pub mod Cases

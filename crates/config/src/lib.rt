@@ -1,11 +1,13 @@
 // The configuration of a memory part (the paper's sheet), and the timing that an accepted one yields.
 mod figures;
+mod stored;
+mod wired;
 
 use basics::Refusal;
 use basics::choose;
 ghost use mathlib.Core.Path.{_≡_};
 ghost use Prim.Native.Nat.{_≤_, _<_, max};
-ghost use Rattle.config.specs.Configuration.{leastPeriod, partFits, wiringFits, periodFits, countsFit, refreshFits, derived, timingOf, institute, wiredOf, configOf};
+ghost use Rattle.config.specs.Configuration.{leastPeriod, partFits, wiringFits, periodFits, countsFit, refreshFits, derived, timingOf, institute};
 ghost use Rattle.config.specs.Answers.{timingOutcome};
 
 // A time in whole picoseconds: a type of its own, so that it is never taken for a count of clocks.
@@ -96,67 +98,6 @@ impl Config {
             refc: Clocks(18),
             wiring: 8,
         }
-    }
-
-    // The configuration that eleven numbers make.
-    pub fn wired(
-        grade: u32,
-        cl: u32,
-        bl: u32,
-        organisation: u32,
-        period: u32,
-        rbd: u32,
-        rwd: u32,
-        wrd: u32,
-        rsc: u32,
-        refc: u32,
-        wiring: u32,
-    ) -> Config
-        ensures { λ r. ⌜ r ≡ wiredOf grade cl bl organisation period rbd rwd wrd rsc refc wiring ⌝ }
-    {
-        Config {
-            grade,
-            cl,
-            bl,
-            organisation,
-            period: Picoseconds(period),
-            rbd: Clocks(rbd),
-            rwd: Clocks(rwd),
-            wrd: Clocks(wrd),
-            rsc: Clocks(rsc),
-            refc: Clocks(refc),
-            wiring,
-        }
-    }
-
-    // The configuration that ten numbers make, as they were stored before there was a wiring: it has eight banks.
-    pub fn from_numbers(
-        grade: u32,
-        cl: u32,
-        bl: u32,
-        organisation: u32,
-        period: u32,
-        rbd: u32,
-        rwd: u32,
-        wrd: u32,
-        rsc: u32,
-        refc: u32,
-    ) -> Config
-        ensures { λ r. ⌜ r ≡ configOf grade cl bl organisation period rbd rwd wrd rsc refc ⌝ }
-    {
-        Config::wired(
-            grade,
-            cl,
-            bl,
-            organisation,
-            period,
-            rbd,
-            rwd,
-            wrd,
-            rsc,
-            refc,
-            8,
-        )
     }
 
     fn part_fits(self) -> bool

@@ -1,10 +1,12 @@
 // The exam site's calls, for programs in C: include/fcram.h declares them.
+pub mod wired;
+
 use config::Config;
 use protocol::Verdict;
 ghost use mathlib.Core.Path.{_≡_};
 ghost use Rattle.rules.specs.Verdict.{checkBytesOf};
 ghost use Rattle.protocol.specs.Steps.{verdictOutcome};
-ghost use Rattle.config.specs.Configuration.{configOf, wiredOf};
+ghost use Rattle.config.specs.Configuration.{configOf};
 ghost use Rattle.fcram.specs.Number.{numberOf};
 ghost use Rattle.fcram.specs.Range.{Small};
 
@@ -20,7 +22,14 @@ fn number(verdict: Verdict) -> u32
     }
 }
 
-// Checks a trace of little-endian words on the configuration that the ten numbers make, which has eight banks.
+// A trace of little-endian words, checked.
+pub(crate) fn checked(config: Config, trace: &[u8]) -> u32
+    ensures { λ r. ⌜ r ≡ numberOf (checkBytesOf config (now (trace .entry))) ⌝ }
+{
+    number(bytecheck::check_bytes(config, trace))
+}
+
+// Checks a trace on the configuration that the ten numbers make, which has eight banks.
 #[no_mangle]
 pub extern "C" fn fcram_check(
     grade: u32,
@@ -49,39 +58,5 @@ pub extern "C" fn fcram_check(
         rsc,
         refc,
     );
-    number(bytecheck::check_bytes(config, trace))
-}
-
-// The same on the configuration that the eleven numbers make.
-#[no_mangle]
-pub extern "C" fn fcram_check_wired(
-    grade: u32,
-    cl: u32,
-    bl: u32,
-    organisation: u32,
-    period: u32,
-    rbd: u32,
-    rwd: u32,
-    wrd: u32,
-    rsc: u32,
-    refc: u32,
-    wiring: u32,
-    trace: &[u8],
-) -> u32
-    ensures { λ r. ⌜ r ≡ numberOf (checkBytesOf (wiredOf grade cl bl organisation period rbd rwd wrd rsc refc wiring) (now (trace .entry))) ⌝ }
-{
-    let config = Config::wired(
-        grade,
-        cl,
-        bl,
-        organisation,
-        period,
-        rbd,
-        rwd,
-        wrd,
-        rsc,
-        refc,
-        wiring,
-    );
-    number(bytecheck::check_bytes(config, trace))
+    checked(config, trace)
 }
