@@ -18,8 +18,8 @@ pub fn of_state(sheet: &Sheet, grounds: &[Ground]) -> Vec<String> {
     standing
 }
 
-/// Counts a call on a state of a sheet at which these answers stand, in their order. What no sheet
-/// is refused for is counted by the wiring.
+/// Counts a call on a state of a sheet at which these answers stand, in their order. The grounds of
+/// 19, and calls that are not refused, are counted by the wiring too.
 pub fn meet(
     coverage: &mut Coverage,
     call: &str,
