@@ -1,4 +1,4 @@
-/* The check of a Network FCRAM command trace, as a C function. Link with libfcram.a. */
+/* The check of a Network FCRAM command trace, as C functions. Link with libfcram.a. */
 #ifndef FCRAM_H
 #define FCRAM_H
 
@@ -10,8 +10,8 @@ extern "C" {
 #endif
 
 /*
- * Checks a trace on the sheet that the ten numbers make. docs/RULES.md has the range of each number (section 1), the rules by their
- * numbers (section 4) and the refusals by theirs (section 6).
+ * Checks a trace on the sheet of eight banks that the ten numbers make. docs/RULES.md has the range of each number (section 1), the
+ * rules by their numbers (section 4) and the refusals by theirs (section 6).
  *
  * trace: length bytes, four for each clock, the lowest byte of a word first. Any alignment will do. The caller guarantees that
  * trace points to length readable bytes (any pointer where length is 0), that nothing writes them during the call, and that length
@@ -24,6 +24,14 @@ extern "C" {
  */
 uint32_t fcram_check(uint32_t grade, uint32_t cl, uint32_t bl, uint32_t organisation, uint32_t period, uint32_t rbd, uint32_t rwd,
                      uint32_t wrd, uint32_t rsc, uint32_t refc, const uint8_t *trace, size_t length);
+
+/*
+ * The same on a sheet with its wiring: 8, or 4 for a board of the older part, which drives BA2 as the top bit of the row. Another
+ * wiring answers 34, tried after 20 and before 21.
+ */
+uint32_t fcram_check_wired(uint32_t grade, uint32_t cl, uint32_t bl, uint32_t organisation, uint32_t period, uint32_t rbd,
+                           uint32_t rwd, uint32_t wrd, uint32_t rsc, uint32_t refc, uint32_t wiring, const uint8_t *trace,
+                           size_t length);
 
 #ifdef __cplusplus
 }

@@ -11,18 +11,18 @@
 #include <string.h>
 #include <sys/mman.h>
 
-/* The ten numbers of a sheet, in the order of the library's call. */
-enum { GRADE, CL, BL, ORGANISATION, PERIOD, RBD, RWD, WRD, RSC, REFC, NUMBERS };
+/* The numbers of a sheet, in the order of the library's calls. */
+enum { GRADE, CL, BL, ORGANISATION, PERIOD, RBD, RWD, WRD, RSC, REFC, WIRING, NUMBERS };
 
 struct sheet {
     uint32_t number[NUMBERS];
 };
 
-static const struct sheet sheet_e = {{37, 4, 4, 16, 5000, 2, 3, 1, 7, 18}};
+static const struct sheet sheet_e = {{37, 4, 4, 16, 5000, 2, 3, 1, 7, 18, 8}};
 
 /* The least and the greatest value of each number; the period's own for grade 37 and CL 4, REFC's for CL 3 and 5. */
 static const uint32_t range[NUMBERS][2] = {
-    {37, 50}, {3, 5}, {2, 4}, {8, 16}, {4500, 8500}, {2, 7}, {1, 7}, {1, 7}, {2, 15}, {15, 63},
+    {37, 50}, {3, 5}, {2, 4}, {8, 16}, {4500, 8500}, {2, 7}, {1, 7}, {1, 7}, {2, 15}, {15, 63}, {4, 8},
 };
 
 static const uint32_t DESL = 0xC0000;
@@ -49,6 +49,8 @@ static uint32_t refusal(const struct sheet *sheet, size_t length) {
     if ((n[GRADE] != 37 && n[GRADE] != 50) || !in_range(sheet, CL) || (n[BL] != 2 && n[BL] != 4) ||
         (n[ORGANISATION] != 16 && n[ORGANISATION] != 8))
         return 20;
+    if (n[WIRING] != 4 && n[WIRING] != 8)
+        return 34;
     if (n[PERIOD] < least_period(n[GRADE], n[CL]) || n[PERIOD] > 8500)
         return 21;
     for (int number = RBD; number <= REFC; number++)
@@ -79,12 +81,19 @@ static void fail(const struct sheet *sheet, size_t length, uint32_t answer, cons
     exit(1);
 }
 
-/* Calls the library; the answer is the refusal that is due, or else a verdict. */
+/* Calls the library, and on eight banks without the wiring too, for the same answer: the refusal that is due, or else a verdict. */
 static uint32_t call(const struct sheet *sheet, const uint8_t *trace, size_t length) {
     const uint32_t *n = sheet->number;
-    uint32_t answer = fcram_check(n[0], n[1], n[2], n[3], n[4], n[5], n[6], n[7], n[8], n[9], trace, length);
+    uint32_t answer =
+        fcram_check_wired(n[0], n[1], n[2], n[3], n[4], n[5], n[6], n[7], n[8], n[9], n[WIRING], trace, length);
     uint32_t refused = refusal(sheet, length);
     calls++;
+    if (n[WIRING] == 8) {
+        uint32_t of_eight = fcram_check(n[0], n[1], n[2], n[3], n[4], n[5], n[6], n[7], n[8], n[9], trace, length);
+        calls++;
+        if (of_eight != answer)
+            fail(sheet, length, of_eight, "the answer of the call with the wiring");
+    }
     if (refused != 0 && answer != refused)
         fail(sheet, length, answer, "the refusal that is due");
     if (refused == 0 && !is_verdict(answer, length / 4))
@@ -214,6 +223,25 @@ static void refresh_counts(void) {
         }
 }
 
+/* Wirings at, around and far from the two there are; beside each a number that is good, or refused by 20, 21, 22 or 33. */
+static void wirings(void) {
+    static const uint32_t bad[] = {0, 1, 2, 3, 5, 6, 7, 9, 12, 16, 32, 260, 264, 65540, 1u << 31 | 8, UINT32_MAX};
+    static const uint32_t beside[][3] = {{GRADE, 37, 0}, {BL, 3, 20}, {PERIOD, 4499, 21}, {RBD, 8, 22}, {REFC, 17, 33}};
+    for (size_t i = 0; i < sizeof beside / sizeof *beside; i++) {
+        struct sheet sheet = sheet_e;
+        uint32_t number = beside[i][2];
+        sheet.number[beside[i][0]] = beside[i][1];
+        for (uint32_t wiring = 4; wiring <= 8; wiring += 4) {
+            sheet.number[WIRING] = wiring;
+            expect(&sheet, NULL, 0, number);
+        }
+        for (size_t j = 0; j < sizeof bad / sizeof *bad; j++) {
+            sheet.number[WIRING] = bad[j];
+            expect(&sheet, NULL, 0, number == 20 ? 20 : 34);
+        }
+    }
+}
+
 /* Every number of a sheet the same. */
 static void uniform_sheets(void) {
     static const uint32_t values[] = {0, 1, 4, 16, 37, 1u << 31, UINT32_MAX};
@@ -272,6 +300,27 @@ static void single_bits(void) {
     }
 }
 
+/* Two reads after a start-up that differ in BA2 alone: RC is 5, and with four banks they are of one bank. */
+static void two_reads(void) {
+    static const uint32_t start_up[][2] = {
+        {0, 0xA0000}, {1, 0x84000}, {7, 0xA0000}, {8, 0x80042}, {14, 0x80000}, {15, 0x80000}, {32, 0x80000}, {33, 0x80000},
+    };
+    uint8_t bytes[4 * 208];
+    for (uint32_t second = 205; second <= 206; second++) {
+        struct sheet sheet = sheet_e;
+        size_t length = 4 * (second + 2);
+        for (size_t at = 0; at < length; at += 4)
+            put(bytes + at, DESL);
+        for (size_t i = 0; i < sizeof start_up / sizeof *start_up; i++)
+            put(bytes + 4 * start_up[i][0], start_up[i][1]);
+        put(bytes + 4 * 201, 0xA0000);
+        put(bytes + 4 * second, 0xB0000);
+        expect(&sheet, place(bytes, length, 0), length, 0);
+        sheet.number[WIRING] = 4;
+        expect(&sheet, place(bytes, length, 0), length, second == 205 ? 206 * 64 + 7 : 0);
+    }
+}
+
 /* A step of a generator (xorshift) with a fixed seed. */
 static uint32_t random_word(void) {
     static uint64_t state = 0x5EED;
@@ -297,6 +346,7 @@ static void noisy_traces(void) {
         struct sheet sheet = sheet_e;
         sheet.number[BL] = random_word() % 2 ? 2 : 4;
         sheet.number[ORGANISATION] = random_word() % 2 ? 8 : 16;
+        sheet.number[WIRING] = random_word() % 2 ? 8 : 4;
         size_t words = random_word() % 65;
         uint32_t sort = random_word() % 3;
         for (size_t i = 0; i < words; i++)
@@ -309,10 +359,12 @@ int main(void) {
     sheets();
     periods();
     refresh_counts();
+    wirings();
     uniform_sheets();
     short_lengths();
     long_lengths();
     single_bits();
+    two_reads();
     noisy_traces();
     printf("hostile: %lu calls answered as the paper has it\n", calls);
     return 0;

@@ -12,14 +12,17 @@
 #include <stdlib.h>
 #include <string.h>
 
-/* The ten numbers of a sheet, in the order of the library's call. */
-enum { GRADE, CL, BL, ORGANISATION, PERIOD, RBD, RWD, WRD, RSC, REFC, NUMBERS };
+/* The numbers of a sheet, in the order of the library's calls. */
+enum { GRADE, CL, BL, ORGANISATION, PERIOD, RBD, RWD, WRD, RSC, REFC, WIRING, NUMBERS };
 
 /* A trace of 512 MiB or more, eight times as many bytes as are checked, is not read to its end and has no verdict. */
 static const size_t TOO_LARGE = (size_t)1 << 29;
 
 /* Sheet E, the institute's own. */
-static uint32_t sheet[NUMBERS] = {37, 4, 4, 16, 5000, 2, 3, 1, 7, 18};
+static uint32_t sheet[NUMBERS] = {37, 4, 4, 16, 5000, 2, 3, 1, 7, 18, 8};
+
+/* Whether the wiring was given, so that the call which takes it is made. */
+static bool wired;
 
 static const struct option options[] = {
     {"grade", required_argument, NULL, GRADE},
@@ -32,6 +35,7 @@ static const struct option options[] = {
     {"wrd", required_argument, NULL, WRD},
     {"rsc", required_argument, NULL, RSC},
     {"refc", required_argument, NULL, REFC},
+    {"wiring", required_argument, NULL, WIRING},
     {NULL, 0, NULL, 0},
 };
 
@@ -41,7 +45,8 @@ static const char usage[] =
     "The sheet, with the institute's own numbers where none is given:\n"
     "  --grade 37          --cl 4   --bl 4   --organisation 16\n"
     "  --period 5000       in picoseconds\n"
-    "  --rbd 2   --rwd 3   --wrd 1   --rsc 7   --refc 18\n";
+    "  --rbd 2   --rwd 3   --wrd 1   --rsc 7   --refc 18\n"
+    "  --wiring 8          the number of banks, 8 or 4\n";
 
 static const char *const rules[] = {
     [1] = "a bit above 19 is set",
@@ -67,6 +72,7 @@ static const char *refusal(uint32_t number) {
     case 24: return "more than 16,777,216 words";
     case 29: return "the length is no multiple of four bytes";
     case 33: return "CL 4 needs a REFC of at least 18";
+    case 34: return "the wiring is neither of eight banks nor of four";
     default: return NULL;
     }
 }
@@ -89,6 +95,7 @@ static const char *arguments(int argc, char **argv) {
             return NULL;
         if (!number_of(optarg, &sheet[option]))
             return NULL;
+        wired |= option == WIRING;
     }
     return optind == argc - 1 ? argv[optind] : NULL;
 }
@@ -123,6 +130,9 @@ static uint8_t *read_all(FILE *file, size_t *length) {
 
 /* The library's answer for a trace on the sheet. */
 static uint32_t check(const uint8_t *trace, size_t length) {
+    if (wired)
+        return fcram_check_wired(sheet[GRADE], sheet[CL], sheet[BL], sheet[ORGANISATION], sheet[PERIOD], sheet[RBD],
+                                 sheet[RWD], sheet[WRD], sheet[RSC], sheet[REFC], sheet[WIRING], trace, length);
     return fcram_check(sheet[GRADE], sheet[CL], sheet[BL], sheet[ORGANISATION], sheet[PERIOD], sheet[RBD], sheet[RWD],
                        sheet[WRD], sheet[RSC], sheet[REFC], trace, length);
 }

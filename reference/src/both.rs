@@ -62,10 +62,10 @@ impl Past for Both {
         self.same(|p| p.lowest(sheet, word), |q| q.lowest(sheet, word))
     }
 
-    fn push(&mut self, word: u32) {
-        self.quick.push(word);
+    fn push(&mut self, sheet: &Sheet, word: u32) {
+        self.quick.push(sheet, word);
         if let Some(plain) = &mut self.plain {
-            plain.push(word);
+            plain.push(sheet, word);
             if plain.pairs.len() > PLAIN_PAIRS {
                 self.plain = None;
             }

@@ -63,7 +63,7 @@ impl<P: Past> Checker<P> {
             self.breach = (clock, number);
             return Step::Breach { clock, number };
         }
-        self.past.push(word);
+        self.past.push(&self.sheet, word);
         Step::Pass
     }
 }

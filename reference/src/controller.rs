@@ -78,7 +78,7 @@ impl<P: Past> Controller<P> {
             return Err(24);
         }
         let word = self.next_word();
-        self.past.push(word);
+        self.past.push(&self.sheet, word);
         Ok(word)
     }
 

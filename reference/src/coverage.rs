@@ -1,9 +1,10 @@
 //! How often each answer was met, so that a run cannot pass by never trying something.
 
 use crate::script::Call;
+use crate::wiring;
 use std::collections::BTreeMap;
 
-/// Counters by name: `code answer` for answers, other names for what a suite counts itself.
+/// Counters by name: `code answer, wiring` for answers, other names for what a suite counts itself.
 #[derive(Default)]
 pub struct Coverage {
     pub met: BTreeMap<String, u64>,
@@ -20,9 +21,10 @@ impl Coverage {
         }
     }
 
-    /// Counts the lines that answered a call: refusals and breaches by number, also where a number
-    /// stands beside the answer; others by their word.
-    pub fn answer(&mut self, call: &Call, lines: &[&str]) {
+    /// Counts the lines that answered a call, by the wiring that it goes by: refusals and breaches by
+    /// number, also where a number stands beside the answer; others by their word.
+    pub fn answer(&mut self, call: &Call, wiring: u32, lines: &[&str]) {
+        let (code, banks) = (call.code(), wiring::name(wiring));
         for line in lines {
             let (name, numbers) = line.split_once(' ').unwrap_or((line, ""));
             let number = match (name, call) {
@@ -31,8 +33,8 @@ impl Coverage {
                 _ => None,
             };
             match number {
-                Some(number) => self.meet(&format!("{} {name} {number}", call.code())),
-                None => self.meet(&format!("{} {name}", call.code())),
+                Some(number) => self.meet(&format!("{code} {name} {number}, {banks}")),
+                None => self.meet(&format!("{code} {name}, {banks}")),
             }
         }
     }

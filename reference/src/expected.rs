@@ -18,11 +18,13 @@ use std::fmt::Write;
 /// The line for a script, or the rest of one, that cannot be played.
 const SCRIPT_REFUSED: &str = "script refused\n";
 
-/// What a script gives: its text, its calls, and the lines of the text up to each call's end.
+/// What a script gives: its text, its calls, the wiring that each goes by, and the lines of the text
+/// up to each call's end.
 #[derive(Default)]
 pub struct Answers {
     pub text: String,
     pub calls: Vec<Call>,
+    pub wirings: Vec<u32>,
     pub ends: Vec<usize>,
 }
 
@@ -46,8 +48,8 @@ impl Player {
     /// Makes one call and gives the lines that it writes.
     fn play(&mut self, call: &Call) -> String {
         match call {
-            Call::Config(numbers) => {
-                *self = Player::on(Sheet::from_numbers(*numbers));
+            Call::Config(_) | Call::ConfigWired(_) => {
+                *self = Player::on(call.sheet().expect("a configuration"));
                 format!("config {}\n", self.sheet.refusal().unwrap_or(0))
             }
             Call::Step { count, word } => self.step(*count, *word),
@@ -79,6 +81,20 @@ impl Player {
                 numbered("controller", &state::controller_numbers(&self.controller))
             }
         }
+    }
+
+    /// The wiring that a call goes by, once it is made: that of its state, or the configuration's.
+    fn wiring(&self, call: &Call) -> u32 {
+        let (checker, controller) = (&self.checker.sheet, &self.controller.sheet);
+        let sheet = match call {
+            Call::Step { .. } | Call::Advance(_) | Call::ShowChecker => checker,
+            Call::Offer(_) | Call::OfferLent(_) => controller,
+            Call::Tick(_) | Call::TickLent(_) => controller,
+            Call::TickOnce | Call::TickOnceLent => controller,
+            Call::Waiting | Call::ShowController => controller,
+            _ => &self.sheet,
+        };
+        sheet.wiring
     }
 
     /// Puts the checker into a state, which writes nothing.
@@ -218,6 +234,7 @@ pub fn answers(script: &[u8]) -> Answers {
         let text = player.play(&call);
         lines += text.lines().count();
         answers.text += &text;
+        answers.wirings.push(player.wiring(&call));
         answers.calls.push(call);
         answers.ends.push(lines);
     }

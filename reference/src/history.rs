@@ -3,6 +3,7 @@
 use crate::pair::{self, Kind};
 use crate::past::Past;
 use crate::sheet::Sheet;
+use crate::wiring;
 use crate::word;
 
 /// A closed pair of the trace: words at `start` and `start + 1`.
@@ -46,7 +47,7 @@ impl History {
                 sheet,
                 u: self.clock - 1,
                 kind: pair::kind(first, word),
-                bank: word::bank(first),
+                bank: wiring::bank(sheet, first),
                 second: word,
             };
             take(&mut found, closing.pin_rules());
@@ -191,12 +192,12 @@ impl Past for History {
         self.broken(sheet, word).iter().map(|b| b.number).min()
     }
 
-    fn push(&mut self, word: u32) {
+    fn push(&mut self, sheet: &Sheet, word: u32) {
         match self.open.take() {
             Some(first) => self.pairs.push(Closed {
                 start: self.clock - 1,
                 kind: pair::kind(first, word),
-                bank: word::bank(first),
+                bank: wiring::bank(sheet, first),
             }),
             None if !word::high(word, word::CS) => self.open = Some(word),
             None => {}

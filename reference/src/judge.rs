@@ -22,7 +22,7 @@ pub fn judge<P: Past>(sheet: &Sheet, words: &[u32]) -> Verdict {
             let clock = past.clock();
             return Verdict::Breach { clock, number };
         }
-        past.push(word);
+        past.push(sheet, word);
     }
     Verdict::Accepted
 }
@@ -36,7 +36,7 @@ pub fn first_broken(sheet: &Sheet, words: &[u32]) -> (History, Vec<Broken>) {
         if !broken.is_empty() {
             return (kept, broken);
         }
-        kept.push(word);
+        kept.push(sheet, word);
     }
     (kept, Vec::new())
 }

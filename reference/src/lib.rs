@@ -25,4 +25,5 @@ pub mod state;
 pub mod suites;
 pub mod summary;
 pub mod walk;
+pub mod wiring;
 pub mod word;

@@ -1,7 +1,8 @@
 //! Pairs of words: the operation that a pair stands for, read from pins and written to pins.
 
 use crate::sheet::Sheet;
-use crate::word::{a, bank, high, stray_bit, BA0, BA1, BA2, BANK_SHIFT, CS, FN, PD, ROW};
+use crate::wiring::{self, greatest_bank, greatest_row};
+use crate::word::{a, high, stray_bit, BA0, BA1, BA2, CS, FN, PD};
 
 /// A read or a write as the controller's user asks for it.
 #[derive(Clone, Copy, Debug, PartialEq, Eq)]
@@ -102,8 +103,8 @@ impl Request {
             _ => in_use && words == 4 && sheet.bl == 4,
         };
         let fits = [
-            self.bank <= 7,
-            self.row <= 16_383,
+            self.bank <= greatest_bank(sheet),
+            self.row <= greatest_row(sheet),
             self.column <= column_pins(sheet),
             lane_fits(self.write, self.lower),
             lane_fits(self.write && sheet.org == 16, self.upper),
@@ -115,8 +116,8 @@ impl Request {
     /// The names of the fields that are at the end of their range.
     pub fn greatest(&self, sheet: &Sheet) -> impl Iterator<Item = &'static str> {
         let greatest = [
-            self.bank == 7,
-            self.row == 16_383,
+            self.bank == greatest_bank(sheet),
+            self.row == greatest_row(sheet),
             self.column == column_pins(sheet),
             self.lower == sheet.bl,
             self.upper == sheet.bl,
@@ -217,8 +218,8 @@ pub fn read(sheet: &Sheet, first: u32, second: u32) -> Result<Operation, u32> {
     let request = |write, lower, upper| {
         Operation::Access(Request {
             write,
-            bank: bank(first),
-            row: first & ROW,
+            bank: wiring::bank(sheet, first),
+            row: wiring::row(sheet, first),
             column: second & column_pins(sheet),
             lower,
             upper,
@@ -245,7 +246,7 @@ pub fn write(sheet: &Sheet, operation: &Operation) -> Result<(u32, u32), u32> {
     match *operation {
         Operation::Access(request) if !request.fits(sheet) => Err(26),
         Operation::Access(request) => {
-            let mut first = PD | request.bank << BANK_SHIFT | request.row;
+            let mut first = PD | wiring::pins(sheet, request.bank, request.row);
             let mut second = PD | CS | request.column;
             if !request.write {
                 first |= FN;

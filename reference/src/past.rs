@@ -13,7 +13,7 @@ pub trait Past: Clone {
     /// The lowest rule that the word would break at this clock, the words before having kept all.
     fn lowest(&self, sheet: &Sheet, word: u32) -> Option<u32>;
     /// Takes the word in.
-    fn push(&mut self, word: u32);
+    fn push(&mut self, sheet: &Sheet, word: u32);
     /// Whether an extended MRS word stands before.
     fn extended_stands(&self) -> bool;
     /// Whether a regular MRS word stands before.
@@ -31,7 +31,7 @@ pub trait Past: Clone {
             return false;
         }
         let mut after = self.clone();
-        after.push(first);
+        after.push(sheet, first);
         after.lowest(sheet, second).is_none()
     }
 }

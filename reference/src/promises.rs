@@ -8,6 +8,7 @@ use crate::pair::{self, Operation, Request};
 use crate::past::Past;
 use crate::script::Call;
 use crate::sheet::{Sheet, SHEET_E};
+use crate::wiring;
 use crate::word::{high, CS, DESL};
 
 /// An accepted request with the clock by which its first word is due.
@@ -175,8 +176,9 @@ impl List {
         Ok(())
     }
 
-    /// The list's end: no waiting request whose first word is not out has seen its bound pass.
-    fn end(&mut self) -> Result<(), String> {
+    /// The list's end: no waiting request whose first word is not out has seen its bound pass. Gives
+    /// what was seen, by the wiring.
+    fn end(mut self) -> Result<Vec<String>, String> {
         let clock = self.clock();
         for (place, waits) in self.waiting().iter().enumerate() {
             let words = pair::write(&self.sheet, &Operation::Access(waits.request));
@@ -187,7 +189,9 @@ impl List {
             }
         }
         self.seen.push("list ended".to_string());
-        Ok(())
+        let banks = wiring::name(self.sheet.wiring);
+        let seen = self.seen.iter().map(|name| format!("{name}, {banks}"));
+        Ok(seen.collect())
     }
 }
 
@@ -203,12 +207,11 @@ pub fn check(calls: &[Call], text: &str) -> Result<Vec<String>, (usize, String)>
         let fit = list.sheet.refusal().is_none();
         let line = *lines.get(at).ok_or((i, "no line".to_string()))?;
         let before = list.clock();
+        if let Some(sheet) = call.sheet() {
+            seen.extend(list.end().map_err(place)?);
+            list = List::on(sheet);
+        }
         match call {
-            Call::Config(numbers) => {
-                list.end().map_err(place)?;
-                seen.append(&mut list.seen);
-                list = List::on(Sheet::from_numbers(*numbers));
-            }
             Call::Offer(numbers) | Call::OfferLent(numbers) if fit => {
                 list.offer(numbers, line).map_err(place)?
             }
@@ -229,7 +232,6 @@ pub fn check(calls: &[Call], text: &str) -> Result<Vec<String>, (usize, String)>
         }
         at += 1;
     }
-    list.end().map_err(|fault| (calls.len(), fault))?;
-    seen.append(&mut list.seen);
+    seen.extend(list.end().map_err(|fault| (calls.len(), fault))?);
     Ok(seen)
 }

@@ -1,13 +1,14 @@
 //! The replay program's script: each call as its code and its numbers. A further code needs a case
 //! in `Call`, in `code`, `numbers` and `decode` here, and one in the player that answers it.
 
+use crate::sheet::{Sheet, NUMBERS, WITHOUT_WIRING};
 use crate::state::{self, CheckerNumbers, ControllerNumbers};
 
 /// One call. Numbers are raw, so that a case can hand over any.
 #[derive(Clone, Debug, PartialEq, Eq)]
 pub enum Call {
-    /// Test the configuration and start afresh on it.
-    Config([u32; 10]),
+    /// Test the configuration, of eight banks, and start afresh on it.
+    Config([u32; WITHOUT_WIRING]),
     /// Step the checker by the word, count times.
     Step { count: u32, word: u32 },
     /// The whole check.
@@ -30,6 +31,8 @@ pub enum Call {
     OfferLent([u32; 6]),
     /// Tick a lent controller count times.
     TickLent(u32),
+    /// Test the configuration with its wiring and start afresh on it.
+    ConfigWired([u32; NUMBERS]),
     /// Put the checker into a state.
     PutChecker(Box<CheckerNumbers>),
     /// Put the controller into a state, of which the number of the open pair is at most 4.
@@ -76,6 +79,7 @@ impl Call {
             Call::Walk(_) => 10,
             Call::OfferLent(_) => 11,
             Call::TickLent(_) => 12,
+            Call::ConfigWired(_) => 13,
             Call::PutChecker(_) => 101,
             Call::PutController(_) => 102,
             Call::ShowChecker => 103,
@@ -87,11 +91,21 @@ impl Call {
         }
     }
 
+    /// The sheet of a call that starts afresh on one.
+    pub fn sheet(&self) -> Option<Sheet> {
+        match self {
+            Call::Config(numbers) => Some(Sheet::of_eight(*numbers)),
+            Call::ConfigWired(numbers) => Some(Sheet::from_numbers(*numbers)),
+            _ => None,
+        }
+    }
+
     /// The numbers that follow the code.
     fn numbers(&self) -> Vec<u32> {
         let counted = |words: &[u32]| [&[words.len() as u32], words].concat();
         match self {
             Call::Config(sheet) => sheet.to_vec(),
+            Call::ConfigWired(sheet) => sheet.to_vec(),
             Call::Step { count, word } => vec![*count, *word],
             Call::Check(words) | Call::Count(words) | Call::Walk(words) => counted(words),
             Call::CountAnyway(words) | Call::Advance(words) => counted(words),
@@ -142,6 +156,7 @@ impl Call {
             10 => Call::Walk(counted(rest)?),
             11 => Call::OfferLent(some(rest)?),
             12 => Call::TickLent(one(rest)?),
+            13 => Call::ConfigWired(some(rest)?),
             101 => Call::PutChecker(Box::new(some(rest)?)),
             102 => Call::PutController(Box::new(
                 some(rest).filter(|numbers| state::controller(numbers).is_some())?,

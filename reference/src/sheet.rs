@@ -1,6 +1,10 @@
 //! The sheet: the numbers that a trace is judged by, their refusals and the figures derived from them.
 
-/// The ten numbers of a sheet as the setter wrote them, accepted or not.
+/// How many numbers a sheet has, and how many one has that was stored without its wiring.
+pub const NUMBERS: usize = 11;
+pub const WITHOUT_WIRING: usize = 10;
+
+/// The numbers of a sheet as the setter wrote them, accepted or not.
 #[derive(Clone, Copy, Debug, PartialEq, Eq)]
 pub struct Sheet {
     pub grade: u32,
@@ -14,6 +18,8 @@ pub struct Sheet {
     pub wrd: u32,
     pub rsc: u32,
     pub refc: u32,
+    /// The number of banks that the board's bank pins tell apart.
+    pub wiring: u32,
 }
 
 /// The institute's own sheet.
@@ -28,6 +34,13 @@ pub const SHEET_E: Sheet = Sheet {
     wrd: 1,
     rsc: 7,
     refc: 18,
+    wiring: 8,
+};
+
+/// The same on a board of the older part.
+pub const SHEET_E_OF_FOUR: Sheet = Sheet {
+    wiring: 4,
+    ..SHEET_E
 };
 
 /// The greatest clock period of either grade, in picoseconds.
@@ -53,8 +66,8 @@ pub fn least_period(grade: u32, cl: u32) -> Option<u32> {
 }
 
 impl Sheet {
-    /// A sheet from its ten numbers in the paper's order.
-    pub fn from_numbers(n: [u32; 10]) -> Sheet {
+    /// A sheet from its numbers in the paper's order.
+    pub fn from_numbers(n: [u32; NUMBERS]) -> Sheet {
         Sheet {
             grade: n[0],
             cl: n[1],
@@ -66,11 +79,19 @@ impl Sheet {
             wrd: n[7],
             rsc: n[8],
             refc: n[9],
+            wiring: n[10],
         }
     }
 
-    /// The ten numbers in the paper's order.
-    pub fn numbers(&self) -> [u32; 10] {
+    /// A sheet stored without its wiring, which means eight banks.
+    pub fn of_eight(n: [u32; WITHOUT_WIRING]) -> Sheet {
+        let mut numbers = [8; NUMBERS];
+        numbers[..WITHOUT_WIRING].copy_from_slice(&n);
+        Sheet::from_numbers(numbers)
+    }
+
+    /// The numbers in the paper's order.
+    pub fn numbers(&self) -> [u32; NUMBERS] {
         [
             self.grade,
             self.cl,
@@ -82,7 +103,13 @@ impl Sheet {
             self.wrd,
             self.rsc,
             self.refc,
+            self.wiring,
         ]
+    }
+
+    /// The numbers but for the wiring.
+    pub fn without_wiring(&self) -> [u32; WITHOUT_WIRING] {
+        self.numbers()[..WITHOUT_WIRING].try_into().unwrap()
     }
 
     /// The five counts of clocks in the paper's order.
@@ -97,6 +124,11 @@ impl Sheet {
         let bl_fits = self.bl == 2 || self.bl == 4;
         let org_fits = self.org == 16 || self.org == 8;
         grade_fits && cl_fits && bl_fits && org_fits
+    }
+
+    /// Whether there is such a wiring.
+    fn wiring_fits(&self) -> bool {
+        self.wiring == 4 || self.wiring == 8
     }
 
     /// Whether the period is in its range; a grade or CL outside the table has no least one.
@@ -117,10 +149,11 @@ impl Sheet {
     }
 
     /// The sheet's own refusals that stand, in the order in which they are tried: 20 grade, CL, BL
-    /// or organisation; 21 period; 22 a count; 33 a REFC too short at CL 4.
+    /// or organisation; 34 wiring; 21 period; 22 a count; 33 a REFC too short at CL 4.
     pub fn refusals(&self) -> impl Iterator<Item = u32> {
         let grounds = [
             (!self.part_fits(), 20),
+            (!self.wiring_fits(), 34),
             (!self.period_fits(), 21),
             (!self.counts_fit(), 22),
             (self.refresh_short(), 33),

@@ -6,25 +6,28 @@ use crate::controller::{Controller, Opened};
 use crate::pair::Request;
 use crate::past::Past;
 use crate::queue::{Queue, CAPACITY};
-use crate::sheet::Sheet;
-use crate::summary::Summary;
+use crate::sheet::{Sheet, NUMBERS};
+use crate::summary::{Summary, EVENTS};
 use crate::word::DESL;
 
 /// A checker: its sheet, clock and first word, 21 events, and the clock and number of its breach.
-pub type CheckerNumbers = [u32; 35];
+pub type CheckerNumbers = [u32; CHECKER];
 
 /// A controller: its sheet and clock, which pair is open, 21 events, the count and 16 places.
-pub type ControllerNumbers = [u32; 130];
+pub type ControllerNumbers = [u32; CONTROLLER];
 
 /// Where the numbers of either state are; its sheet comes first.
-pub const CLOCK: usize = 10;
-pub const OPEN: usize = 11;
-pub const EVENT: usize = 12;
+pub const CLOCK: usize = NUMBERS;
+pub const OPEN: usize = CLOCK + 1;
+pub const EVENT: usize = OPEN + 1;
 /// Where the further numbers of a checker are.
-pub const BREACH: usize = 33;
+pub const BREACH: usize = EVENT + EVENTS;
 /// Where the further numbers of a controller are; a place has six.
-pub const COUNT: usize = 33;
-pub const PLACE: usize = 34;
+pub const COUNT: usize = EVENT + EVENTS;
+pub const PLACE: usize = COUNT + 1;
+/// How many numbers each state has.
+pub const CHECKER: usize = BREACH + 2;
+pub const CONTROLLER: usize = PLACE + 6 * CAPACITY;
 
 /// So many numbers from a place on.
 fn part<const N: usize>(numbers: &[u32], from: usize) -> [u32; N] {
@@ -111,6 +114,5 @@ pub fn controller_numbers(controller: &Controller<Both>) -> ControllerNumbers {
     for place in controller.queue.places {
         numbers.extend(place.numbers());
     }
-    assert_eq!(numbers.len(), PLACE + 6 * CAPACITY);
     numbers.try_into().unwrap()
 }

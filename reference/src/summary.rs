@@ -4,6 +4,7 @@
 use crate::pair::{self, Kind};
 use crate::past::Past;
 use crate::sheet::Sheet;
+use crate::wiring;
 use crate::word;
 
 /// The number of events.
@@ -100,7 +101,7 @@ impl Summary {
         if kind == Kind::Write && pair::reserved_lane(sheet, second) {
             return Some(5);
         }
-        let access = || self.access(sheet, kind, word::bank(first));
+        let access = || self.access(sheet, kind, wiring::bank(sheet, first));
         let of_access = kind.is_access().then(access).flatten();
         of_access.or_else(|| self.spacing(sheet, kind))
     }
@@ -193,10 +194,10 @@ impl Past for Summary {
         self.closing(sheet, first, word)
     }
 
-    fn push(&mut self, word: u32) {
+    fn push(&mut self, sheet: &Sheet, word: u32) {
         match self.open() {
             Some(first) => {
-                self.close(pair::kind(first, word), word::bank(first));
+                self.close(pair::kind(first, word), wiring::bank(sheet, first));
                 self.first = word::DESL;
             }
             None if word::high(word, word::CS) => self.first = word::DESL,

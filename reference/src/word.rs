@@ -1,8 +1,9 @@
 //! The word at each clock: one bit a pin, high = 1.
 
-/// A0 to A13, which carry the row on a first word.
+/// A0 to A13, which carry the row on a first word, and their number.
 pub const ROW: u32 = 0x3FFF;
-/// The place of BA0; the bank is the three bits from here on.
+pub const ROW_BITS: u32 = 14;
+/// The place of BA0; the bank pins are the three bits from here on.
 pub const BANK_SHIFT: u32 = 14;
 pub const BANK: u32 = 7 << BANK_SHIFT;
 pub const BA0: u32 = 1 << 14;
@@ -22,11 +23,6 @@ pub const fn a(n: u32) -> u32 {
 /// Whether any pin of the mask is high.
 pub fn high(word: u32, pin: u32) -> bool {
     word & pin != 0
-}
-
-/// The bank pins of a word.
-pub fn bank(word: u32) -> u32 {
-    (word & BANK) >> BANK_SHIFT
 }
 
 /// Whether a bit above PD is set, which is no pin at all.

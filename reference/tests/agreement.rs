@@ -46,11 +46,11 @@ fn busy_trace(random: &Random, sheet: &Sheet, pairs: u32) -> Vec<u32> {
         let operation = pool::operation(random, sheet, kind, random.below(8));
         let pair = pool::noisy(random, sheet, kind, &operation);
         while !past.admits(sheet, pair) && past.lowest(sheet, DESL).is_none() {
-            past.push(DESL);
+            past.push(sheet, DESL);
             words.push(DESL);
         }
         for word in [pair.0, pair.1] {
-            past.push(word);
+            past.push(sheet, word);
             words.push(word);
         }
     }

@@ -16,7 +16,7 @@ fn formerly_kept(sheet: &Sheet, words: &[u32]) -> usize {
     let breach = words.iter().position(|&word| {
         let overdue = past.last_ref().is_some_and(|r| past.clock - r > sheet.d());
         let others = past.broken(sheet, word).iter().any(|b| b.number != 3);
-        past.push(word);
+        past.push(sheet, word);
         overdue || others
     });
     breach.unwrap_or(words.len())

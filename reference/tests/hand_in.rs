@@ -52,7 +52,8 @@ fn refusals_of_the_site_in_their_order() {
     assert_eq!(long(&SHEET_E, longest + 1), 29);
     assert_eq!(long(&SHEET_E, longest - 1), 29);
     let mut sheet = SHEET_E;
-    for (refusal, field, value) in [(33, 9, 17), (22, 5, 0), (21, 4, 0), (20, 0, 0)] {
+    let faults = [(33, 9, 17), (22, 5, 0), (21, 4, 0), (34, 10, 5), (20, 0, 0)];
+    for (refusal, field, value) in faults {
         let mut numbers = sheet.numbers();
         numbers[field] = value;
         sheet = Sheet::from_numbers(numbers);

@@ -80,11 +80,12 @@ fn earlier_numbers_come_before_33() {
 fn refusals_that_stand_together() {
     let all = Sheet {
         bl: 3,
+        wiring: 5,
         period: 0,
         rbd: 0,
         ..SHORT
     };
-    assert_eq!(all.refusals().collect::<Vec<_>>(), [20, 21, 22, 33]);
+    assert_eq!(all.refusals().collect::<Vec<_>>(), [20, 34, 21, 22, 33]);
     assert!(sheets::refused()
         .iter()
         .all(|sheet| sheet.refusal().is_some()));

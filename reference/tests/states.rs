@@ -8,9 +8,10 @@ use reference::judge::LONGEST;
 use reference::pair::Request;
 use reference::past::Past;
 use reference::random::Random;
-use reference::sheet::SHEET_E;
+use reference::sheet::{NUMBERS, SHEET_E};
 use reference::state::{
-    self, CheckerNumbers, ControllerNumbers, BREACH, CLOCK, COUNT, EVENT, OPEN, PLACE,
+    self, CheckerNumbers, ControllerNumbers, BREACH, CHECKER, CLOCK, CONTROLLER, COUNT, EVENT,
+    OPEN, PLACE,
 };
 use reference::suites::{near, pool};
 use reference::summary::EVENTS;
@@ -20,18 +21,27 @@ use reference::word::{DESL, PD};
 const READ: [u32; 6] = [0, 7, 16_383, 255, 0, 0];
 const WRITE: [u32; 6] = [1, 0, 0, 0, 4, 1];
 
+/// Fields of a sheet with unfit values, the refusal that is tried last first.
+const FAULTS: [(usize, u32, u32); 5] = [
+    (9, 17, 33),
+    (8, 16, 22),
+    (4, 4499, 21),
+    (10, 5, 34),
+    (2, 3, 20),
+];
+
 /// A checker on sheet E that remembers nothing.
 fn checker(clock: u32, first: u32) -> CheckerNumbers {
-    let mut numbers = [0; 35];
-    numbers[..10].copy_from_slice(&SHEET_E.numbers());
+    let mut numbers = [0; CHECKER];
+    numbers[..NUMBERS].copy_from_slice(&SHEET_E.numbers());
     (numbers[CLOCK], numbers[OPEN]) = (clock, first);
     numbers
 }
 
 /// A controller on sheet E with reads and writes waiting in turn, in all places.
 fn controller(clock: u32, opened: u32, count: u32) -> ControllerNumbers {
-    let mut numbers = [0; 130];
-    numbers[..33].copy_from_slice(&checker(clock, opened)[..33]);
+    let mut numbers = [0; CONTROLLER];
+    numbers[..BREACH].copy_from_slice(&checker(clock, opened)[..BREACH]);
     numbers[COUNT] = count;
     for place in 0..16 {
         let request = if place % 2 == 0 { READ } else { WRITE };
@@ -124,7 +134,7 @@ fn refusals_in_their_order() {
     numbers[EVENT] = LONGEST;
     assert_eq!(step(&numbers), Step::Refused(19));
     assert_eq!(walk(&numbers), Some(Step::Refused(19)));
-    for (field, value, number) in [(9, 17, 33), (8, 16, 22), (4, 4499, 21), (2, 3, 20)] {
+    for (field, value, number) in FAULTS {
         numbers[field] = value;
         assert_eq!(step(&numbers), Step::Refused(number));
         assert_eq!(walk(&numbers), Some(Step::Refused(number)));
@@ -136,7 +146,7 @@ fn refusals_in_their_order() {
 fn sheets_of_controllers() {
     for count in [0, 16, 17] {
         let mut numbers = controller(LONGEST, 0, count);
-        for (field, value, number) in [(9, 17, 33), (8, 16, 22), (4, 4499, 21), (2, 3, 20)] {
+        for (field, value, number) in FAULTS {
             numbers[field] = value;
             assert_eq!(refusals(&numbers), [Some(number); 2]);
         }

@@ -17,7 +17,7 @@ mod archive {
 /// Makes a call on a lent trace.
 fn on_sheet(call: OnSheet, sheet: &Sheet, words: &[u32]) -> u64 {
     let numbers = sheet.numbers();
-    // SAFETY: the ten numbers and the words can be read while they are lent.
+    // SAFETY: the sheet's numbers and the words can be read while they are lent.
     unsafe { call(numbers.as_ptr(), words.as_ptr(), words.len()) }
 }
 

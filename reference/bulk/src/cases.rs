@@ -3,11 +3,13 @@
 use crate::run::Run;
 use reference::both::Both;
 use reference::counts::LONGEST_TALLY;
+use reference::coverage::Coverage;
 use reference::judge::LONGEST;
 use reference::random::Random;
-use reference::sheet::{Sheet, SHEET_E};
-use reference::suites::{load, near, pool, sheets};
+use reference::sheet::{SHEET_E, SHEET_E_OF_FOUR};
+use reference::suites::{ba2, load, near, pool, sheets};
 use reference::summary::Summary;
+use reference::wiring::{self, WIRINGS};
 use reference::word::{DESL, PD};
 
 /// The lengths on either side of each limit, with their names.
@@ -18,32 +20,66 @@ const LENGTHS: [(usize, &str); 4] = [
     (LONGEST as usize + 1, "16,777,217 words"),
 ];
 
+/// The calls that take a sheet.
+const CALLS: [&str; 3] = ["check", "walk", "walk again"];
+
+/// What a call with a sheet must meet with a wiring; the longest walks are for eight banks alone.
+fn promised_of(call: &str, wiring: u32) -> Vec<String> {
+    let name = |length, what: &str| format!("{call}, {length}, {}: {what}", wiring::name(wiring));
+    let mut promised = Vec::new();
+    for number in [20, 21, 22, 33] {
+        let refused = format!("refused {number}");
+        promised.push(name("short", &refused));
+        promised.extend(LENGTHS.map(|(_, length)| name(length, &refused)));
+    }
+    promised.push(name("short", "no fault"));
+    match call {
+        "walk again" => promised.push(name("short", "refused 23")),
+        _ => promised.extend((1..=12).map(|n| name("short", &format!("breach {n}")))),
+    }
+    let long = match (call, wiring) {
+        ("check", _) | (_, 8) => &LENGTHS[..],
+        _ => &LENGTHS[..2],
+    };
+    for &(count, length) in long {
+        if count > LONGEST as usize {
+            promised.push(name(length, "refused 24"));
+            continue;
+        }
+        promised.push(name(length, "no fault"));
+        promised.push(match call {
+            "walk again" => name(length, "refused 23"),
+            _ => name(length, "breach 2 at the last clock"),
+        });
+    }
+    promised
+}
+
+/// What the calls must meet on a sheet of no wiring.
+fn promised_without() -> Vec<String> {
+    let lengths = LENGTHS.map(|(_, name)| name);
+    let mut promised = Vec::new();
+    for call in CALLS {
+        let name = |length| format!("{call}, {length}, {}: refused 34", wiring::name(0));
+        promised.push(name("short"));
+        promised.extend(lengths.map(name));
+    }
+    promised
+}
+
 /// What a run must meet.
 pub fn promised() -> Vec<String> {
-    let mut promised = Vec::new();
-    let calls = ["check", "walk", "walk again"];
-    for call in calls {
-        for number in [20, 21, 22, 33] {
-            promised.push(format!("{call}, short: refused {number}"));
-            promised.extend(LENGTHS.map(|(_, name)| format!("{call}, {name}: refused {number}")));
-        }
-        promised.push(format!("{call}, short: no fault"));
-        promised.extend(
-            LENGTHS[..3]
-                .iter()
-                .map(|(_, name)| format!("{call}, {name}: no fault")),
-        );
-        promised.push(format!("{call}, 16,777,217 words: refused 24"));
+    let mut promised = promised_without();
+    for call in CALLS {
+        promised.extend(WIRINGS.map(|wiring| promised_of(call, wiring)).concat());
     }
-    for call in ["check", "walk"] {
-        promised.extend((1..=12).map(|number| format!("{call}, short: breach {number}")));
-        let last = |(_, name)| format!("{call}, {name}: breach 2 at the last clock");
-        promised.extend(LENGTHS.into_iter().take(3).map(last));
+    // An early breach ends a walk before 24 is due.
+    let early = [("walk", "breach 2"), ("walk again", "refused 23")];
+    let name = |(call, what)| format!("{call}, 16,777,217 words, eight banks: {what}");
+    promised.extend(early.map(name));
+    for sheet in pool::parts() {
+        promised.extend(ba2::promised(sheet.bl, sheet.wiring));
     }
-    let again = |name| format!("walk again, {name}: refused 23");
-    promised.push(again("short"));
-    promised.extend(LENGTHS.map(|(_, name)| again(name)));
-    promised.push("walk, 16,777,217 words: breach 2".to_string());
     let counted = ["short: no fault", "65,536 words: no fault"];
     promised.extend(counted.map(|what| format!("count, {what}")));
     let refused = LENGTHS[1..].iter();
@@ -64,31 +100,47 @@ pub fn short(run: &mut Run, random: &Random) {
         run.all::<Both>(&sheet, &near::random_words(random), "short");
         run.all::<Both>(&sheet, &[], "short");
     }
-    sheets::each_fault(random, 2, &mut |numbers| {
+    let mut of_ba2 = Coverage::default();
+    for sheet in pool::parts() {
+        ba2::each(random, &sheet, &mut of_ba2, &mut |_, words| {
+            run.all::<Both>(&sheet, words, "short")
+        });
+    }
+    run.coverage.add(of_ba2);
+    sheets::each_fault(random, 1, &mut |sheet| {
         let words = random.pick(&[&[][..], &[DESL], &[0]]);
-        run.all::<Both>(&Sheet::from_numbers(numbers), words, "short");
+        run.all::<Both>(&sheet, words, "short");
     });
     for words in [&[][..], &[DESL], &[0]] {
         refused_sheets(run, words, "short");
     }
 }
 
-/// Traces at the limits: as they should be, with a breach at the last clock, with one early on, and
-/// all of them on sheets that are refused.
+/// Traces at the limits, with each wiring: as they should be, with a breach at the last clock, with one
+/// early on, and all of them on sheets that are refused. Those for four banks are right for eight too.
 pub fn long(run: &mut Run, random: &Random) {
-    let mut words = load::mixed(random, &SHEET_E, LONGEST as usize + 1);
+    let mut words = load::mixed(random, &SHEET_E_OF_FOUR, LONGEST as usize + 1);
     for (length, name) in LENGTHS {
         let last = words[length - 1];
-        run.all::<Summary>(&SHEET_E, &words[..length], name);
+        on_both(run, &words[..length], name);
         refused_sheets(run, &words[..length], name);
         words[length - 1] = last & !PD;
-        run.all::<Summary>(&SHEET_E, &words[..length], name);
+        on_both(run, &words[..length], name);
         refused_sheets(run, &words[..length], name);
         words[length - 1] = last;
         let early = words[100];
         words[100] = early & !PD;
-        run.all::<Summary>(&SHEET_E, &words[..length], name);
+        on_both(run, &words[..length], name);
         words[100] = early;
+    }
+}
+
+/// Sheet E with each wiring; the longest walks, which take most of the time, on eight banks alone.
+fn on_both(run: &mut Run, words: &[u32], name: &str) {
+    run.all::<Summary>(&SHEET_E, words, name);
+    run.check::<Summary>(&SHEET_E_OF_FOUR, words, name);
+    if words.len() < LONGEST as usize {
+        run.walks::<Summary>(&SHEET_E_OF_FOUR, words, name);
     }
 }
 

@@ -5,6 +5,7 @@ use crate::call;
 use reference::coverage::Coverage;
 use reference::past::Past;
 use reference::sheet::Sheet;
+use reference::wiring;
 use std::process::exit;
 
 /// What stands in a place of the counts before a call.
@@ -18,7 +19,8 @@ pub struct Run {
 }
 
 impl Run {
-    /// Compares all calls on a trace, which is left as it was. Answers are counted by its length's name.
+    /// Compares all calls on a trace, which is left as it was. Answers are counted by its length's name,
+    /// and by the wiring where there is a sheet.
     pub fn all<P: Past>(&mut self, sheet: &Sheet, words: &[u32], length: &str) {
         let before = words.to_vec();
         self.check::<P>(sheet, words, length);
@@ -37,15 +39,17 @@ impl Run {
     /// Compares the whole check.
     pub fn check<P: Past>(&mut self, sheet: &Sheet, words: &[u32], length: &str) {
         let wanted = check_number::<P>(sheet, words);
-        self.settle("check", length, words, wanted, call::check(sheet, words));
+        let got = call::check(sheet, words);
+        self.settle("check", &on(sheet, length), words, wanted, got);
     }
 
     /// Compares the walk and the advance after it.
     pub fn walks<P: Past>(&mut self, sheet: &Sheet, words: &[u32], length: &str) {
         let (stop, again) = walk_numbers::<P>(sheet, words);
-        self.settle("walk", length, words, stop, call::walk(sheet, words));
+        let length = on(sheet, length);
+        self.settle("walk", &length, words, stop, call::walk(sheet, words));
         let got = call::walk_again(sheet, words);
-        self.settle("walk again", length, words, again, got);
+        self.settle("walk again", &length, words, again, got);
     }
 
     /// Compares the tally, with room for the five counts, for more and for less.
@@ -80,6 +84,11 @@ impl Run {
         };
         self.coverage.meet(&format!("{call}, {length}: {name}"));
     }
+}
+
+/// The name of a length, with the wiring of the sheet.
+fn on(sheet: &Sheet, length: &str) -> String {
+    format!("{length}, {}", wiring::name(sheet.wiring))
 }
 
 /// An answer in words.

@@ -19,6 +19,8 @@ struct Checker<'a> {
     rc: u32,
     d: u32,
     w: u32,
+    /// The bank pins of a first word, shifted down: three, or two with four banks.
+    banks: u32,
     /// The pins of each lane in use, and what they hold when the lane is reserved.
     lanes: (u32, u32),
     reserved: u32,
@@ -48,6 +50,7 @@ impl<'a> Checker<'a> {
             rc: sheet.rc(),
             d: sheet.d(),
             w: sheet.w(),
+            banks: sheet.wiring - 1,
             lanes: (LOWER, if sheet.org == 16 { UPPER } else { LOWER }),
             reserved: if sheet.bl == 4 { 0 } else { u32::MAX },
             open: 0,
@@ -99,7 +102,7 @@ impl<'a> Checker<'a> {
     /// A read or write at u.
     #[inline]
     fn access(&mut self, u: u32, first: u32, write: bool) -> u32 {
-        let bank = (first >> 14 & 7) as usize;
+        let bank = (first >> 14 & self.banks & 7) as usize;
         let from = if write {
             self.write_from
         } else {

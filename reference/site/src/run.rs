@@ -1,6 +1,6 @@
-//! One comparison under way: calls the archive's check, compares, counts.
+//! One comparison under way: calls the archive's checks, compares, counts.
 
-use crate::call;
+use crate::call::Form;
 use crate::memory::Edge;
 use reference::both::Both;
 use reference::coverage::Coverage;
@@ -9,6 +9,7 @@ use reference::judge::LONGEST;
 use reference::random::Random;
 use reference::sheet::Sheet;
 use reference::suites::sheets;
+use reference::wiring;
 use std::process::exit;
 
 /// The longest trace that `short` takes, in bytes.
@@ -53,7 +54,7 @@ impl Run {
         } else {
             place(&mut self.place, bytes, address)
         };
-        let got = call::check(sheet, placed);
+        let answers = answers(sheet, |form| form.check(sheet, placed));
         if placed != bytes {
             fail(sheet, bytes, "the same bytes after the call", "other bytes");
         }
@@ -65,13 +66,13 @@ impl Run {
             self.coverage
                 .meet(&format!("judged at address {address} modulo 4"));
         }
-        self.settle(sheet, bytes, wanted, got);
+        self.settle(sheet, bytes, wanted, &answers);
     }
 
     /// Compares on a trace of any length where it lies; the answer was found otherwise.
     pub fn lent(&mut self, sheet: &Sheet, bytes: &[u8], wanted: u32) {
         let before = bytes.to_vec();
-        let got = call::check(sheet, bytes);
+        let answers = answers(sheet, |form| form.check(sheet, bytes));
         if before != bytes {
             fail(
                 sheet,
@@ -80,39 +81,67 @@ impl Run {
                 "other bytes",
             );
         }
-        self.settle(sheet, bytes, wanted, got);
+        self.settle(sheet, bytes, wanted, &answers);
     }
 
     /// Compares on bytes that are refused by the sheet or their number alone.
     pub fn refused(&mut self, sheet: &Sheet, bytes: &[u8]) {
         let wanted = site_refusal(sheet, bytes.len()).expect("a refusal");
-        let got = call::check(sheet, bytes);
-        self.settle(sheet, bytes, wanted, got);
+        let answers = answers(sheet, |form| form.check(sheet, bytes));
+        self.settle(sheet, bytes, wanted, &answers);
     }
 
-    /// Compares two answers and counts them. A difference ends the program.
-    pub fn settle(&mut self, sheet: &Sheet, bytes: &[u8], wanted: u32, got: u32) {
-        if wanted != got {
-            fail(sheet, bytes, &meaning(wanted), &meaning(got));
-        }
-        self.calls += 1;
+    /// Compares on numbers with the given bits in the upper halves of their places.
+    pub fn dirty(&mut self, sheet: &Sheet, bytes: &[u8], dirt: u32) {
+        let wanted = site_number::<Both>(sheet, bytes);
+        let answers = answers(sheet, |form| form.check_dirty(sheet, bytes, dirt));
+        self.settle(sheet, bytes, wanted, &answers);
+        self.coverage.meet("numbers with other upper halves");
+    }
+
+    /// Compares on no bytes at the null pointer.
+    pub fn null(&mut self, sheet: &Sheet) {
+        let wanted = site_refusal(sheet, 0).unwrap_or(0);
+        let answers = answers(sheet, |form| form.check_null(sheet));
+        self.settle(sheet, &[], wanted, &answers);
+        self.coverage.meet("no bytes at the null pointer");
+    }
+
+    /// Compares the answers of the calls with the one wanted and counts them. A difference ends the
+    /// program.
+    fn settle(&mut self, sheet: &Sheet, bytes: &[u8], wanted: u32, answers: &[(Form, u32)]) {
         let name = match wanted {
             0 => "accepted".to_string(),
-            20..=29 | 33 => format!("refused {wanted}"),
+            20..=29 | 33 | 34 => format!("refused {wanted}"),
             _ => format!("breach {}", wanted % 64),
         };
-        self.coverage.meet(&name);
+        for (form, got) in answers {
+            let call = form.name();
+            if wanted != *got {
+                let got = format!("{} by {call}", meaning(*got));
+                fail(sheet, bytes, &meaning(wanted), &got);
+            }
+            self.calls += 1;
+            let banks = wiring::name(sheet.wiring);
+            self.coverage.meet(&format!("{call}: {name}, {banks}"));
+        }
         // The numbers that stand too, and are answered later in the order.
         sheets::count_order(&mut self.coverage, sheet);
         let odd = !bytes.len().is_multiple_of(4);
         let long = bytes.len() / 4 > LONGEST as usize;
-        if odd && matches!(wanted, 20..=22 | 33) {
+        if odd && sheets::REFUSALS.contains(&wanted) {
             self.coverage.meet(&format!("{wanted} ahead of 29"));
         }
-        if long && matches!(wanted, 20..=22 | 33 | 29) {
+        if long && (wanted == 29 || sheets::REFUSALS.contains(&wanted)) {
             self.coverage.meet(&format!("{wanted} ahead of 24"));
         }
     }
+}
+
+/// The answers of all calls that can be made with a sheet.
+fn answers(sheet: &Sheet, call: impl Fn(Form) -> u32) -> Vec<(Form, u32)> {
+    let forms = Form::of(sheet).iter();
+    forms.map(|&form| (form, call(form))).collect()
 }
 
 /// A copy of the bytes at an address modulo 4, all ones before and behind.
@@ -128,7 +157,7 @@ fn place<'a>(memory: &'a mut Vec<u8>, bytes: &[u8], address: usize) -> &'a [u8] 
 fn meaning(number: u32) -> String {
     match number {
         0 => "0, accepted".to_string(),
-        20..=29 | 33 => format!("{number}, refused"),
+        20..=29 | 33 | 34 => format!("{number}, refused"),
         _ => format!("{number}, breach {} {}", number / 64, number % 64),
     }
 }

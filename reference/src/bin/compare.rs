@@ -57,8 +57,9 @@ fn try_script(program: &Program, suite: &Suite, script: &[u8], tally: &mut Tally
     }
     let lines: Vec<&str> = text.lines().collect();
     let mut start = 0;
-    for (call, &end) in wanted.calls.iter().zip(&wanted.ends) {
-        tally.coverage.answer(call, &lines[start..end]);
+    let calls = wanted.calls.iter().zip(&wanted.wirings);
+    for ((call, &wiring), &end) in calls.zip(&wanted.ends) {
+        tally.coverage.answer(call, wiring, &lines[start..end]);
         start = end;
     }
     for rest in &lines[start..] {
@@ -114,7 +115,7 @@ fn fail(script: &[u8], wanted: &Answers, call: usize, fault: &str) -> ! {
     println!("  script: {}", whole.display());
     // The calls since the last configuration show the same, if every group begins with one.
     let played = &wanted.calls[..wanted.calls.len().min(call + 1)];
-    let fresh = |call: &Call| matches!(call, Call::Config(_));
+    let fresh = |call: &Call| call.sheet().is_some();
     let from = played.iter().rposition(fresh).unwrap_or(0);
     let mut words = Vec::new();
     played[from..]

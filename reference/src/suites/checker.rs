@@ -1,6 +1,6 @@
 //! The examiner, step by step, whole and as a walk, and the counts: codes 2, 3, 8 and 10.
 
-use super::{long, names, near, pool, sheets};
+use super::{ba2, long, names, near, pool, refusals, sheets};
 use crate::coverage::Coverage;
 use crate::judge::{check, Verdict};
 use crate::past::Past;
@@ -15,11 +15,10 @@ const IN_ONE_SCRIPT: usize = 3_000;
 
 /// What this suite must meet.
 pub fn promised() -> Vec<String> {
-    let refusals = ["refused 20", "refused 21", "refused 22", "refused 33"];
     let mut promised = [
-        names(2, &refusals),
-        names(3, &refusals),
-        names(10, &refusals),
+        refusals(2, "refused"),
+        refusals(3, "refused"),
+        refusals(10, "refused"),
         names(2, &["pass", "refused 23", "refused 24"]),
         names(3, &["accepted"]),
         names(8, &["counts"]),
@@ -27,12 +26,16 @@ pub fn promised() -> Vec<String> {
     ]
     .concat();
     for number in 1..=12 {
-        promised.push(format!("2 breach {number}"));
-        promised.push(format!("3 breach {number}"));
-        promised.push(format!("10 breach {number}"));
+        let breach = format!("breach {number}");
+        for code in [2, 3, 10] {
+            promised.extend(names(code, &[&breach]));
+        }
     }
     promised.push("walk over an unfinished pair".to_string());
     promised.extend(near::promised());
+    for sheet in pool::parts() {
+        promised.extend(ba2::promised(sheet.bl, sheet.wiring));
+    }
     promised
 }
 
@@ -40,6 +43,11 @@ pub fn promised() -> Vec<String> {
 pub fn cases(seed: u64, scale: u32, packer: &mut Packer, coverage: &mut Coverage) {
     let random = Random::new(seed);
     unfit_sheets(&random, packer);
+    for sheet in pool::parts() {
+        ba2::each(&random, &sheet, coverage, &mut |coverage, words| {
+            judged(&random, packer, coverage, &sheet, words)
+        });
+    }
     for round in 0..scale {
         near::round(&random, round, coverage, &mut |coverage, sheet, words| {
             judged(&random, packer, coverage, sheet, words)
@@ -54,7 +62,7 @@ pub fn cases(seed: u64, scale: u32, packer: &mut Packer, coverage: &mut Coverage
     for _ in 0..4 * scale {
         long::dense(&random, packer);
     }
-    long::last_clock(packer);
+    long::last_clock(&random, packer);
 }
 
 /// Counts what a trace breaks, and has it judged step by step, whole and by a walk, and counted. A
@@ -68,14 +76,14 @@ fn judged(
 ) {
     near::count_broken(coverage, sheet, words);
     if words.len() > IN_ONE_SCRIPT {
-        return judged_apart(packer, sheet, words);
+        return judged_apart(random, packer, sheet, words);
     }
-    let mut calls = stepped(sheet, words);
+    let mut calls = stepped(random, sheet, words);
     calls.push(Call::Check(words.to_vec()));
     calls.push(Call::Count(words.to_vec()));
     calls.push(Call::Walk(words.to_vec()));
     let beginning = &words[..random.below(words.len() as u32 + 1) as usize];
-    if check::<Summary>(sheet, beginning) == Ok(Verdict::Accepted) && unfinished(beginning) {
+    if check::<Summary>(sheet, beginning) == Ok(Verdict::Accepted) && unfinished(sheet, beginning) {
         coverage.meet("walk over an unfinished pair");
     }
     calls.push(Call::Walk(beginning.to_vec()));
@@ -83,16 +91,16 @@ fn judged(
 }
 
 /// Has a long trace judged step by step, whole and by a walk, each in a group of its own.
-fn judged_apart(packer: &mut Packer, sheet: &Sheet, words: &[u32]) {
-    packer.group(&stepped(sheet, words));
+fn judged_apart(random: &Random, packer: &mut Packer, sheet: &Sheet, words: &[u32]) {
+    packer.group(&stepped(random, sheet, words));
     for call in [Call::Check, Call::Walk] {
-        packer.group(&[pool::config(sheet), call(words.to_vec())]);
+        packer.group(&[pool::config(random, sheet), call(words.to_vec())]);
     }
 }
 
 /// A trace stepped over on a sheet, and what the checker says after it.
-fn stepped(sheet: &Sheet, words: &[u32]) -> Vec<Call> {
-    let mut calls = vec![pool::config(sheet)];
+fn stepped(random: &Random, sheet: &Sheet, words: &[u32]) -> Vec<Call> {
+    let mut calls = vec![pool::config(random, sheet)];
     calls.extend(steps(words));
     calls.push(Call::Step {
         count: 2,
@@ -103,9 +111,9 @@ fn stepped(sheet: &Sheet, words: &[u32]) -> Vec<Call> {
 }
 
 /// Whether a trace ends with a pair open.
-fn unfinished(words: &[u32]) -> bool {
+fn unfinished(sheet: &Sheet, words: &[u32]) -> bool {
     let mut past = Summary::fresh();
-    words.iter().for_each(|&word| past.push(word));
+    words.iter().for_each(|&word| past.push(sheet, word));
     past.pair_open()
 }
 
@@ -123,7 +131,7 @@ pub fn steps(words: &[u32]) -> Vec<Call> {
 fn unfit_sheets(random: &Random, packer: &mut Packer) {
     for sheet in sheets::refused() {
         packer.group(&[
-            pool::config(&sheet),
+            pool::config(random, &sheet),
             Call::Step {
                 count: 3,
                 word: random.pick(&[0, DESL]),

@@ -1,44 +1,51 @@
 //! The controller: codes 4, 5 and 9, and at random 11 and 12 for 4 and 5. What is written is compared
 //! with the reference controller's and also held against the promises of demand 3.
 
-use super::{names, pool, sheets};
+use super::{by_wiring, names, pool, ranges, refusals, sheets};
 use crate::coverage::Coverage;
 use crate::judge::LONGEST;
 use crate::pair::column_pins;
 use crate::random::Random;
 use crate::script::{Call, Packer};
 use crate::sheet::{Sheet, SHEET_E};
+use crate::wiring::{greatest_bank, greatest_row};
 
 /// The number of ways in which a list of calls goes.
 const WAYS: u32 = 10;
 
 /// What this suite must meet.
 pub fn promised() -> Vec<String> {
-    let refusals = ["refused 20", "refused 21", "refused 22", "refused 33"];
     let mut promised = names(9, &["waiting", "request"]);
     for code in [4, 11] {
-        promised.extend(names(code, &refusals));
+        promised.extend(refusals(code, "refused"));
         promised.extend(names(code, &["offered", "refused 26", "refused 27"]));
+        promised.extend(ranges::promised(code));
     }
     for code in [5, 12] {
-        promised.extend(names(code, &refusals));
+        promised.extend(refusals(code, "refused"));
         promised.extend(names(code, &["word", "clock", "refused 24"]));
     }
-    promised.push("waiting shown as accepted and not yet carried".to_string());
-    promised.push("first word before its bound by 8 to 31".to_string());
-    promised.push("list ended".to_string());
+    let seen = [
+        "waiting shown as accepted and not yet carried",
+        "first word before its bound by 8 to 31",
+        "list ended",
+    ];
+    promised.extend(seen.into_iter().flat_map(by_wiring));
     promised
 }
 
 /// All cases of the suite.
-pub fn cases(seed: u64, scale: u32, packer: &mut Packer, _coverage: &mut Coverage) {
+pub fn cases(seed: u64, scale: u32, packer: &mut Packer, coverage: &mut Coverage) {
     let random = Random::new(seed);
     unfit_sheets(&random, packer);
+    for sheet in pool::parts() {
+        at_the_ends(&random, packer, coverage, &sheet);
+    }
     for round in 0..scale {
         for (i, sheet) in pool::corners().into_iter().enumerate() {
             list(&random, packer, &sheet, (round + i as u32) % WAYS);
         }
-        for way in 0..8_000 {
+        for way in 0..6_500 {
             let sheet = pool::sheet(&random);
             list(&random, packer, &sheet, way % WAYS);
         }
@@ -69,8 +76,8 @@ fn unfit_offer(random: &Random, sheet: &Sheet) -> Call {
     let write = random.once_in(2);
     let mut numbers = pool::request(random, sheet, write, random.below(8)).numbers();
     let (field, least) = random.pick(&[
-        (1, 8),
-        (2, 16_384),
+        (1, greatest_bank(sheet) + 1),
+        (2, greatest_row(sheet) + 1),
         (3, column_pins(sheet) + 1),
         (4, 5),
         (5, 5),
@@ -85,7 +92,7 @@ fn unfit_offer(random: &Random, sheet: &Sheet) -> Call {
 /// One list of calls on a sheet, going in the given way.
 fn list(random: &Random, packer: &mut Packer, sheet: &Sheet, way: u32) {
     let all: Vec<u32> = (0..8).collect();
-    let mut calls = vec![pool::config(sheet)];
+    let mut calls = vec![pool::config(random, sheet)];
     match way {
         0 => calls.push(Call::Tick(random.below(4 * sheet.d()))),
         1 => {
@@ -194,10 +201,21 @@ fn refused_between(random: &Random, sheet: &Sheet, calls: &mut Vec<Call>) {
     calls.push(Call::Tick(random.below(300)));
 }
 
+/// Offers of banks and rows where their ranges end, by value and lent; those that fit are carried.
+fn at_the_ends(random: &Random, packer: &mut Packer, coverage: &mut Coverage, sheet: &Sheet) {
+    let mut calls = vec![pool::config(random, sheet)];
+    for made in [Call::Offer, Call::OfferLent] {
+        calls.extend(ranges::calls(random, coverage, sheet, made));
+    }
+    calls.extend([Call::Waiting, Call::Tick(300), Call::Waiting]);
+    packer.group(&calls);
+}
+
 /// Sheets that are refused, before anything else is looked at.
 fn unfit_sheets(random: &Random, packer: &mut Packer) {
     for sheet in sheets::refused() {
-        let mut calls = vec![pool::config(&sheet), Call::Tick(0), Call::Tick(3)];
+        let mut calls = vec![pool::config(random, &sheet)];
+        calls.extend([0, 3].map(Call::Tick));
         for _ in 0..4 {
             calls.push(offer(random, &SHEET_E, &[0]));
             calls.push(unfit_offer(random, &SHEET_E));
@@ -210,7 +228,7 @@ fn unfit_sheets(random: &Random, packer: &mut Packer) {
 /// The last clock: reached idle, with a request opened on the clock before it, and with requests
 /// all along.
 fn last_clock(random: &Random, packer: &mut Packer) {
-    let mut calls = vec![pool::config(&SHEET_E), Call::Tick(LONGEST - 1)];
+    let mut calls = vec![pool::config(random, &SHEET_E), Call::Tick(LONGEST - 1)];
     calls.push(offer(random, &SHEET_E, &[0]));
     calls.extend([1, 1, 0, 5].map(Call::Tick));
     calls.push(Call::Waiting);
@@ -221,13 +239,17 @@ fn last_clock(random: &Random, packer: &mut Packer) {
     calls.extend([Call::Tick(1), Call::Tick(0), Call::Waiting]);
     send(random, packer, calls);
 
-    let sheet = pool::sheet(random);
-    let mut calls = vec![pool::config(&sheet), Call::Tick(u32::MAX)];
-    calls.extend([Call::Tick(0), Call::Waiting]);
+    let sheet = Sheet {
+        wiring: 4,
+        ..pool::sheet(random)
+    };
+    let mut calls = vec![pool::config(random, &sheet), Call::Tick(u32::MAX)];
+    calls.extend([1, 0, 1, 5].map(Call::Tick));
+    calls.push(Call::Waiting);
     send(random, packer, calls);
 
     let sheet = pool::sheet(random);
-    let mut calls = vec![pool::config(&sheet)];
+    let mut calls = vec![pool::config(random, &sheet)];
     for _ in 0..1_700 {
         calls.push(offer(random, &sheet, &[0, 5]));
         calls.push(Call::Tick(random.below(20_000)));

@@ -41,7 +41,7 @@ impl Load {
     }
 
     fn word(&mut self, word: u32) {
-        self.past.push(word);
+        self.past.push(&self.sheet, word);
         self.words.push(word);
     }
 

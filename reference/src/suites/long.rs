@@ -8,7 +8,7 @@ use crate::pair::Kind;
 use crate::past::Past;
 use crate::random::Random;
 use crate::script::{Call, Packer};
-use crate::sheet::{Sheet, SHEET_E};
+use crate::sheet::{Sheet, SHEET_E, SHEET_E_OF_FOUR};
 use crate::summary::Summary;
 use crate::word::{DESL, FN, PD};
 
@@ -21,7 +21,7 @@ pub fn dense_words(random: &Random, sheet: &Sheet, length: usize) -> Vec<u32> {
     start.idle_until(201);
     let mut words = start.words;
     let mut past = Summary::fresh();
-    words.iter().for_each(|&word| past.push(word));
+    words.iter().for_each(|&word| past.push(sheet, word));
     while words.len() < length {
         let due = past.refresh_limit(sheet).unwrap() - 20;
         let kind = match past.clock() > due {
@@ -32,11 +32,11 @@ pub fn dense_words(random: &Random, sheet: &Sheet, length: usize) -> Vec<u32> {
         let operation = pool::operation(random, sheet, kind, bank);
         let pair = pool::noisy(random, sheet, kind, &operation);
         while !past.admits(sheet, pair) {
-            past.push(DESL);
+            past.push(sheet, DESL);
             words.push(DESL);
         }
         for word in [pair.0, pair.1] {
-            past.push(word);
+            past.push(sheet, word);
             words.push(word);
         }
     }
@@ -55,19 +55,19 @@ pub fn dense(random: &Random, packer: &mut Packer) {
     let sheet = quick_sheet(random);
     let mut words = dense_words(random, &sheet, 8_000);
     for call in [Call::Check, Call::Count, Call::Walk] {
-        packer.group(&[pool::config(&sheet), call(words.clone())]);
+        packer.group(&[pool::config(random, &sheet), call(words.clone())]);
     }
     let spoilt = words.len() - 1 - random.below(40) as usize;
     words[spoilt] ^= 1 << random.below(20);
-    packer.group(&[pool::config(&sheet), Call::Check(words.clone())]);
-    packer.group(&[pool::config(&sheet), Call::Walk(words)]);
+    packer.group(&[pool::config(random, &sheet), Call::Check(words.clone())]);
+    packer.group(&[pool::config(random, &sheet), Call::Walk(words)]);
 }
 
 /// The last clock: 24 there, for a good word and a bad one, and 23 ahead of it after a breach.
-pub fn last_clock(packer: &mut Packer) {
-    let mut quick = SHEET_E;
-    quick.rsc = 2;
-    let fresh = pool::config(&quick);
+pub fn last_clock(random: &Random, packer: &mut Packer) {
+    let quick = |sheet| Sheet { rsc: 2, ..sheet };
+    let fresh = pool::config(random, &quick(SHEET_E));
+    let of_four = pool::config(random, &quick(SHEET_E_OF_FOUR));
     let step = |count, word| Call::Step { count, word };
     let extended = PD | FN | 0x4000;
     packer.group(&[
@@ -77,10 +77,10 @@ pub fn last_clock(packer: &mut Packer) {
         step(1, DESL),
         step(1, 0),
         step(0, 0),
-        fresh.clone(),
+        of_four.clone(),
         step(u32::MAX, DESL),
         step(0, DESL),
-        fresh.clone(),
+        of_four,
         step(LONGEST - 1, DESL),
         step(1, 0),
         step(1, DESL),

@@ -1,7 +1,7 @@
 //! Inputs for the marker program: every short length, those around the longest, and traces on
 //! sheet E near the edges of the rules.
 
-use super::{long, near};
+use super::{ba2, long, near};
 use crate::both::Both;
 use crate::coverage::Coverage;
 use crate::hand_in::{marker_line, LONGEST_MARKED};
@@ -35,6 +35,7 @@ pub fn promised() -> Vec<String> {
         }
     }
     promised.extend(near::promised_refresh_edges());
+    promised.extend(ba2::promised(SHEET_E.bl, SHEET_E.wiring));
     promised
 }
 
@@ -43,6 +44,9 @@ pub fn inputs(seed: u64, scale: u32, coverage: &mut Coverage, send: &mut dyn FnM
     let random = Random::new(seed);
     short(&random, send);
     around_the_longest(&random, send);
+    ba2::each(&random, &SHEET_E, coverage, &mut |_, words| {
+        send(&bytes(words))
+    });
     traces(&random, scale, coverage, send);
 }
 

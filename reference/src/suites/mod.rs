@@ -1,5 +1,6 @@
 //! The suites: generators of scripts, each with the answers that it promises to meet.
 
+pub mod ba2;
 pub mod checker;
 pub mod controller;
 mod ending;
@@ -9,6 +10,7 @@ pub mod marks;
 pub mod near;
 pub mod pairs;
 pub mod pool;
+pub mod ranges;
 pub mod scripts;
 pub mod sheets;
 pub mod states;
@@ -17,6 +19,7 @@ pub mod trace;
 use crate::coverage::Coverage;
 use crate::promises;
 use crate::script::{Call, Packer};
+use crate::wiring::{self, WIRINGS};
 
 /// A check of calls and the text that answered them.
 pub type Promise = fn(calls: &[Call], text: &str) -> Result<Vec<String>, (usize, String)>;
@@ -73,7 +76,31 @@ pub const SUITES: [Suite; 5] = [
     },
 ];
 
-/// Names of coverage, `code answer` for each answer.
+/// A name of coverage with each wiring.
+pub fn by_wiring(name: &str) -> Vec<String> {
+    let with = |wiring| format!("{name}, {}", wiring::name(wiring));
+    WIRINGS.map(with).to_vec()
+}
+
+/// Names of coverage, `code answer` for each answer with each wiring.
 fn names(code: u32, answers: &[&str]) -> Vec<String> {
-    answers.iter().map(|a| format!("{code} {a}")).collect()
+    let name = |answer: &&str| by_wiring(&format!("{code} {answer}"));
+    answers.iter().flat_map(name).collect()
+}
+
+/// Names of the sheet's own refusals, of which 34 is for a wiring that there is not.
+fn refusals(code: u32, answer: &str) -> Vec<String> {
+    let name = |number| match number {
+        34 => vec![format!("{code} {answer} 34, {}", wiring::name(0))],
+        _ => by_wiring(&format!("{code} {answer} {number}")),
+    };
+    sheets::REFUSALS.into_iter().flat_map(name).collect()
+}
+
+/// Names of the answers to both calls that start afresh, of which that without the wiring has eight
+/// banks.
+fn configs() -> Vec<String> {
+    let of_eight = [0, 20, 21, 22, 33].map(|n| format!("1 config {n}, eight banks"));
+    let wired = [names(13, &["config 0"]), refusals(13, "config")].concat();
+    [&of_eight[..], &wired].concat()
 }

@@ -1,11 +1,11 @@
-//! Sheets, and pairs read and written: codes 1, 6 and 7.
+//! Sheets, and pairs read and written: codes 1, 13, 6 and 7.
 
-use super::{names, pool, sheets};
+use super::{configs, names, pool, ranges, refusals, sheets};
 use crate::coverage::Coverage;
 use crate::pair::{self, column_pins, Kind, Operation};
 use crate::random::Random;
 use crate::script::{Call, Packer, PairNumbers};
-use crate::sheet::Sheet;
+use crate::sheet::{Sheet, SHEET_E, SHEET_E_OF_FOUR};
 use crate::word::{CS, FN, PD};
 
 const MAX: u32 = u32::MAX;
@@ -19,22 +19,15 @@ const KINDS: [Kind; 5] = [
 
 /// What this suite must meet.
 pub fn promised() -> Vec<String> {
-    let config = [
-        "config 0",
-        "config 20",
-        "config 21",
-        "config 22",
-        "config 33",
-    ];
-    let refusals = ["refused 20", "refused 21", "refused 22", "refused 33"];
     let read = ["access", "regular", "extended", "refresh", "refused 28"];
     let write = ["words", "refused 26"];
     [
-        names(1, &config),
-        names(6, &refusals),
+        configs(),
+        refusals(6, "refused"),
         names(6, &read),
-        names(7, &refusals),
+        refusals(7, "refused"),
         names(7, &write),
+        ranges::promised(7),
         sheets::promised_order(),
         sheets::promised_on_pairs(),
     ]
@@ -46,7 +39,7 @@ pub fn cases(seed: u64, scale: u32, packer: &mut Packer, coverage: &mut Coverage
     let random = Random::new(seed);
     sheets::trials(&random, packer, coverage, scale);
     for sheet in pool::parts() {
-        written(&random, packer, &sheet);
+        written(&random, packer, coverage, &sheet);
         damaged(&random, packer, &sheet, scale);
         random_words(&random, packer, &sheet, scale);
     }
@@ -54,14 +47,18 @@ pub fn cases(seed: u64, scale: u32, packer: &mut Packer, coverage: &mut Coverage
 }
 
 /// Fields in and out of range, written; and what was written, read back.
-fn written(random: &Random, packer: &mut Packer, sheet: &Sheet) {
+fn written(random: &Random, packer: &mut Packer, coverage: &mut Coverage, sheet: &Sheet) {
     let most = column_pins(sheet);
     let banks = [0, 1, 2, 3, 4, 5, 6, 7, 8, 9, 256, MAX];
-    let rows = [0, 1, 0x1555, 0x2AAA, 16_382, 16_383, 16_384, 65_536, MAX];
+    let rows = [
+        0, 1, 0x1555, 0x2AAA, 16_382, 16_383, 16_384, 0x5555, 32_766, 32_767, 32_768, 65_536, MAX,
+    ];
     let columns = [0, 1, 127, 128, most - 1, most, most + 1, 512, 65_536, MAX];
     let lanes = [0, 1, 2, 3, 4, 5, 8, 256, 258, MAX];
     let kinds = [0, 1, 2, 256, MAX];
-    let mut calls = vec![pool::config(sheet)];
+    let mut calls = vec![pool::config(random, sheet)];
+    let at_ends = |numbers| Call::WritePair(PairNumbers::Access(numbers));
+    calls.extend(ranges::calls(random, coverage, sheet, at_ends));
     for bank in banks {
         for row in rows {
             for column in columns {
@@ -78,18 +75,24 @@ fn written(random: &Random, packer: &mut Packer, sheet: &Sheet) {
     for write in kinds {
         for lower in lanes {
             for upper in lanes {
-                let (bank, row) = (random.below(8), random.below(16_384));
-                let column = random.below(most + 1);
+                let fit = pool::request(random, sheet, write != 0, random.below(8));
+                let (bank, row, column) = (fit.bank, fit.row, fit.column);
                 access(sheet, [write, bank, row, column, lower, upper], &mut calls);
             }
         }
     }
+    written_others(sheet, &mut calls);
+    chunked(packer, &calls);
+}
+
+/// The same of modes and of a refresh.
+fn written_others(sheet: &Sheet, calls: &mut Vec<Call>) {
     for value in (0..70).chain([127, 128, 256, 1 << 31, MAX]) {
         write_and_read(
             sheet,
             PairNumbers::Extended(value),
             Operation::Extended(value),
-            &mut calls,
+            calls,
         );
     }
     for a3 in [0, 1, 2, 256, MAX] {
@@ -97,11 +100,10 @@ fn written(random: &Random, packer: &mut Packer, sheet: &Sheet) {
             sheet,
             PairNumbers::Regular(a3),
             Operation::Regular(a3 != 0),
-            &mut calls,
+            calls,
         );
     }
-    write_and_read(sheet, PairNumbers::Refresh, Operation::Refresh, &mut calls);
-    chunked(packer, &calls);
+    write_and_read(sheet, PairNumbers::Refresh, Operation::Refresh, calls);
 }
 
 /// The calls for one request.
@@ -132,9 +134,9 @@ fn chunked(packer: &mut Packer, calls: &[Call]) {
 
 /// Pairs with their ignored pins at random, each of the 64 bits turned over in turn.
 fn damaged(random: &Random, packer: &mut Packer, sheet: &Sheet, scale: u32) {
-    let mut calls = vec![pool::config(sheet)];
+    let mut calls = vec![pool::config(random, sheet)];
     for kind in KINDS {
-        for _ in 0..20 * scale {
+        for _ in 0..10 * scale {
             let bank = random.below(8);
             let operation = pool::operation(random, sheet, kind, bank);
             let (first, second) = pool::noisy(random, sheet, kind, &operation);
@@ -150,8 +152,8 @@ fn damaged(random: &Random, packer: &mut Packer, sheet: &Sheet, scale: u32) {
 
 /// Words at random: of all bits, of the pins, and of the pins with PD high.
 fn random_words(random: &Random, packer: &mut Packer, sheet: &Sheet, scale: u32) {
-    let mut calls = vec![pool::config(sheet)];
-    for _ in 0..2_000 * scale {
+    let mut calls = vec![pool::config(random, sheet)];
+    for _ in 0..1_000 * scale {
         let (clear, set) = random.pick(&[(MAX, 0), (0xF_FFFF, 0), (0xF_FFFF, PD)]);
         let word = || (random.bits() & clear) | set;
         let (first, second) = (word(), word());
@@ -162,31 +164,40 @@ fn random_words(random: &Random, packer: &mut Packer, sheet: &Sheet, scale: u32)
     chunked(packer, &calls);
 }
 
-/// Every setting of A0 to A13, BA0 to BA2 and FN: on MRS, REF and both LALs for each CL, BL and
-/// organisation, and on each first word, the other word being a fitting one.
+/// Every setting of A0 to A13, BA0 to BA2 and FN on each word, the other word being a fitting one.
 fn every_word(random: &Random, packer: &mut Packer) {
-    for sheet in pool::parts().into_iter().filter(|s| s.grade == 37) {
-        let mut calls = vec![pool::config(&sheet)];
-        for pins in 0..1 << 17 {
-            let opens = random.pick(&[PD, PD | FN]) | (random.bits() & 0x1_FFFF);
-            if sheet.org == 16 {
-                calls.push(Call::ReadPair(PD | FN, PD | pins));
-            }
-            if sheet.cl == 4 {
-                calls.push(Call::ReadPair(opens, PD | CS | pins));
-                calls.push(Call::ReadPair(PD, PD | CS | pins));
+    let parts = pool::parts().into_iter().filter(|s| s.grade == 37);
+    for sheet in parts.filter(|s| s.cl == 4 || s.wiring == 8) {
+        every_closing(random, packer, &sheet);
+    }
+    // At BL 2 no lane is reserved.
+    for sheet in [SHEET_E, SHEET_E_OF_FOUR].map(|sheet| Sheet { bl: 2, ..sheet }) {
+        let mut calls = vec![pool::config(random, &sheet)];
+        for pins in 0..1 << 18 {
+            let closes = PD | CS | (random.bits() & 0x3_FFFF);
+            calls.push(Call::ReadPair(PD | pins, closes));
+            if sheet.wiring == 8 {
+                calls.push(Call::ReadPair(PD, PD | pins));
             }
         }
         chunked(packer, &calls);
     }
-    let sheet = pool::parts()[0];
-    let mut calls = vec![pool::config(&sheet)];
-    for pins in 0..1 << 18 {
-        calls.push(Call::ReadPair(
-            PD | pins,
-            PD | CS | (random.bits() & 0x3_FFFF),
-        ));
-        calls.push(Call::ReadPair(PD, PD | pins));
+}
+
+/// Every MRS for each CL and BL, every LAL of a write for each BL and organisation, and some of reads.
+fn every_closing(random: &Random, packer: &mut Packer, sheet: &Sheet) {
+    let mut calls = vec![pool::config(random, sheet)];
+    for pins in 0..1 << 17 {
+        let opens = PD | (random.bits() & 0x1_FFFF);
+        if sheet.org == 16 {
+            calls.push(Call::ReadPair(PD | FN, PD | pins));
+        }
+        if sheet.cl == 4 {
+            calls.push(Call::ReadPair(opens, PD | CS | pins));
+            if random.once_in(4) {
+                calls.push(Call::ReadPair(opens | FN, PD | CS | pins));
+            }
+        }
     }
     chunked(packer, &calls);
 }

@@ -4,23 +4,27 @@ use crate::pair::{self, column_pins, Kind, Operation, Request};
 use crate::random::Random;
 use crate::script::Call;
 use crate::sheet::{least_period, Sheet, COUNT_RANGES, GREATEST_PERIOD, LEAST_REFC_AT_CL_4};
+use crate::wiring::{greatest_bank, greatest_row, WIRINGS};
 use crate::word::{a, BA2, BANK, FN, ROW};
 
-/// The call that starts afresh on a sheet.
-pub fn config(sheet: &Sheet) -> Call {
-    Call::Config(sheet.numbers())
+/// A call that starts afresh on a sheet; of eight banks, at random that with the wiring or without.
+pub fn config(random: &Random, sheet: &Sheet) -> Call {
+    match sheet.wiring {
+        8 if random.once_in(2) => Call::Config(sheet.without_wiring()),
+        _ => Call::ConfigWired(sheet.numbers()),
+    }
 }
 
-/// Every grade, CL, BL and organisation, at a period and counts in the middle: accepted sheets.
+/// Every grade, CL, BL and organisation, at a period and counts in the middle, with each wiring:
+/// accepted sheets.
 pub fn parts() -> Vec<Sheet> {
     let mut sheets = Vec::new();
     for grade in [37, 50] {
         for cl in [3, 4, 5] {
             for bl in [2, 4] {
                 for org in [16, 8] {
-                    sheets.push(Sheet::from_numbers([
-                        grade, cl, bl, org, 6000, 3, 4, 2, 7, 18,
-                    ]));
+                    let of = |w| Sheet::from_numbers([grade, cl, bl, org, 6000, 3, 4, 2, 7, 18, w]);
+                    sheets.extend(WIRINGS.map(of));
                 }
             }
         }
@@ -85,15 +89,16 @@ pub fn sheet(random: &Random) -> Sheet {
     Sheet::from_numbers(numbers)
 }
 
-/// A request within the sheet's ranges, of the given kind and bank.
+/// A request within the sheet's ranges, of the given kind, and of the given bank or, past the last of
+/// the sheet's banks, counted on from the first.
 pub fn request(random: &Random, sheet: &Sheet, write: bool, bank: u32) -> Request {
     let lanes: &[u32] = if sheet.bl == 4 { &[1, 2, 4] } else { &[1, 2] };
     let lane = |used: bool| if used { random.pick(lanes) } else { 0 };
     let (lower, upper) = (lane(write), lane(write && sheet.org == 16));
     Request {
         write,
-        bank,
-        row: random.below(16_384),
+        bank: bank % (greatest_bank(sheet) + 1),
+        row: random.below(greatest_row(sheet) + 1),
         column: random.below(column_pins(sheet) + 1),
         lower,
         upper,

@@ -1,7 +1,7 @@
 //! The script itself: calls of all codes mixed, the configuration at the start, and scripts that
 //! are refused whole or from some call on.
 
-use super::{names, pool, sheets, trace};
+use super::{configs, names, pool, sheets, trace};
 use crate::coverage::Coverage;
 use crate::random::Random;
 use crate::script::{bytes, Call, Packer, PairNumbers};
@@ -14,14 +14,13 @@ pub fn promised() -> Vec<String> {
         "script refused".to_string(),
         "script without a line".to_string(),
     ];
+    promised.extend(configs());
     let common = [
-        "config 0", "pass", "accepted", "offered", "clock", "access", "words", "counts",
+        "pass", "accepted", "offered", "clock", "access", "words", "counts",
     ];
-    for (code, answer) in (1..).zip(common) {
+    for (code, answer) in (2..).zip(common) {
         promised.extend(names(code, &[answer]));
     }
-    let refused = ["config 20", "config 21", "config 22", "config 33"];
-    promised.extend(names(1, &refused));
     promised.extend(names(9, &["waiting"]));
     promised.extend(names(10, &["end"]));
     promised.extend(names(11, &["offered"]));
@@ -73,9 +72,7 @@ fn mixed(random: &Random) -> Vec<u32> {
     let mut script = Vec::new();
     for _ in 0..60 {
         let call = some_call(random, &sheet);
-        if let Call::Config(numbers) = call {
-            sheet = Sheet::from_numbers(numbers);
-        }
+        sheet = call.sheet().unwrap_or(sheet);
         call.encode(&mut script);
     }
     script
@@ -91,10 +88,13 @@ fn some_call(random: &Random, sheet: &Sheet) -> Call {
     let kind = trace::some_kind(random);
     let operation = pool::operation(random, &fit, kind, random.below(8));
     let (first, second) = pool::noisy(random, &fit, kind, &operation);
-    let request = pool::request(random, &fit, random.once_in(2), random.below(9)).numbers();
+    let mut request = pool::request(random, &fit, random.once_in(2), random.below(8)).numbers();
+    if random.once_in(9) {
+        request[1] = fit.wiring;
+    }
     match random.below(21) {
-        0 if random.once_in(6) => pool::config(&random.pick(&sheets::refused())),
-        0 => pool::config(&pool::sheet(random)),
+        0 if random.once_in(4) => pool::config(random, &random.pick(&sheets::refused())),
+        0 => pool::config(random, &pool::sheet(random)),
         1..=3 => Call::Step {
             count: random.below(40),
             word: DESL,

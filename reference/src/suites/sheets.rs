@@ -5,16 +5,27 @@ use super::pool;
 use crate::coverage::Coverage;
 use crate::random::Random;
 use crate::script::{Call, Packer, PairNumbers};
-use crate::sheet::{least_period, Sheet, COUNT_RANGES, GREATEST_PERIOD, SHEET_E};
+use crate::sheet::{least_period, Sheet, COUNT_RANGES, GREATEST_PERIOD, NUMBERS};
+use crate::sheet::{SHEET_E, SHEET_E_OF_FOUR};
 use crate::word::{CS, FN, PD};
 
 const MAX: u32 = u32::MAX;
 
-/// Fields of a sheet with values that are unfit, those refused by 20 first, then by 21, then by 22.
-const UNFIT: [(usize, u32); 7] = [(0, 38), (1, 6), (2, 3), (3, 4), (4, 8501), (4, 0), (5, 1)];
+/// Fields of a sheet with values that are unfit, in the order of their refusals: 20, 34, 21, 22.
+const UNFIT: [(usize, u32); 9] = [
+    (0, 38),
+    (1, 6),
+    (2, 3),
+    (3, 4),
+    (10, 5),
+    (10, 0),
+    (4, 8501),
+    (4, 0),
+    (5, 1),
+];
 
 /// The sheet's own refusals, in the order in which they are tried.
-pub const REFUSALS: [u32; 4] = [20, 21, 22, 33];
+pub const REFUSALS: [u32; 5] = [20, 34, 21, 22, 33];
 
 /// What every set of unfit fields must meet: each number ahead of each later one.
 pub fn promised_order() -> Vec<String> {
@@ -40,13 +51,19 @@ pub fn count_order(coverage: &mut Coverage, sheet: &Sheet) {
     }
 }
 
-/// Refused sheets: E with another REFC; with another field unfit; and with that beside a REFC that
-/// is too short.
+/// Refused sheets, with each wiring: E with another REFC; with another field unfit; and with that
+/// beside a REFC that is too short.
 pub fn refused() -> Vec<Sheet> {
-    let with = |refc| Sheet { refc, ..SHEET_E };
-    let alone = [14, 15, 17, 64].map(with);
-    let unfit = |sheet: Sheet| UNFIT.map(|(field, value)| put(&sheet, field, value));
-    [&alone[..], &unfit(SHEET_E), &unfit(with(17))].concat()
+    let of = |sheet: Sheet| {
+        let with = |refc| Sheet { refc, ..sheet };
+        let unfit = |sheet: Sheet| UNFIT.map(|(field, value)| put(&sheet, field, value));
+        let alone = [14, 15, 17, 64].map(with);
+        [&alone[..], &unfit(sheet), &unfit(with(17))].concat()
+    };
+    [SHEET_E, SHEET_E_OF_FOUR]
+        .into_iter()
+        .flat_map(of)
+        .collect()
 }
 
 /// The sheet with another value in one field.
@@ -59,7 +76,7 @@ fn put(sheet: &Sheet, field: usize, value: u32) -> Sheet {
 /// Values of the sheet's field i around its edges on this part, and others that a narrower number
 /// would take for fitting ones.
 fn edge_values(sheet: &Sheet, i: usize) -> Vec<u32> {
-    let fitting: Vec<u32> = match i {
+    let edges: Vec<u32> = match i {
         0 => vec![37, 50],
         1 => vec![3, 4, 5],
         2 => vec![2, 4],
@@ -69,13 +86,15 @@ fn edge_values(sheet: &Sheet, i: usize) -> Vec<u32> {
             let table = grades.flat_map(|g| [3, 4, 5].map(|cl| least_period(g, cl).unwrap()));
             table.chain([GREATEST_PERIOD]).collect()
         }
+        // 16 is an organisation, and no wiring.
+        10 => vec![4, 8, 16],
         _ => {
             let (low, high) = COUNT_RANGES[i - 5];
             (low..=high).collect()
         }
     };
     let mut values = vec![0, 1, MAX, MAX - 1, 1 << 31];
-    for value in fitting {
+    for value in edges {
         let own = sheet.numbers()[i];
         values.extend([value - 1, value, value + 1, value + 256, value + 65_536]);
         values.extend([value | 1 << 31, own + (1 << 8), own + (1 << 16)]);
@@ -86,7 +105,7 @@ fn edge_values(sheet: &Sheet, i: usize) -> Vec<u32> {
 }
 
 /// A configuration, and a pair read and written on it, which a refused sheet refuses first.
-fn trial(random: &Random, numbers: [u32; 10]) -> [Call; 3] {
+fn trial(random: &Random, sheet: &Sheet) -> [Call; 3] {
     let second = random.pick(&[0, MAX, PD, PD | CS, PD | 0x42]);
     let field = random.pick(&[0, 1, 64, MAX]);
     let written = match random.below(4) {
@@ -96,7 +115,7 @@ fn trial(random: &Random, numbers: [u32; 10]) -> [Call; 3] {
         _ => PairNumbers::Access([0, 0, field, 0, 0, 0]),
     };
     [
-        Call::Config(numbers),
+        pool::config(random, sheet),
         Call::ReadPair(PD | random.pick(&[0, FN, CS]), second),
         Call::WritePair(written),
     ]
@@ -120,42 +139,41 @@ fn count_pairs(coverage: &mut Coverage, sheet: &Sheet, calls: &[Call; 3]) {
 
 /// Each field alone at and around each of its edges, on every part and on those that 33 refuses;
 /// then every corner.
-pub fn each_edge(visit: &mut dyn FnMut([u32; 10])) {
+pub fn each_edge(visit: &mut dyn FnMut(Sheet)) {
     for part in [pool::parts(), pool::short_parts()].concat() {
-        for i in 0..10 {
+        for i in 0..NUMBERS {
             for value in edge_values(&part, i) {
-                visit(put(&part, i, value).numbers());
+                visit(put(&part, i, value));
             }
         }
     }
     for corner in [pool::corners(), pool::short_corners()].concat() {
-        visit(corner.numbers());
+        visit(corner);
     }
 }
 
 /// Every set of unfit fields, so that the order of the refusals shows.
-pub fn each_fault(random: &Random, rounds: u32, visit: &mut dyn FnMut([u32; 10])) {
+pub fn each_fault(random: &Random, rounds: u32, visit: &mut dyn FnMut(Sheet)) {
     for _ in 0..rounds {
-        for unfit in 0..1024 {
+        for unfit in 0..1 << NUMBERS {
             let good = pool::sheet(random);
             let mut numbers = good.numbers();
-            for i in (0..10).filter(|i| unfit >> i & 1 == 1) {
+            for i in (0..NUMBERS).filter(|i| unfit >> i & 1 == 1) {
                 numbers[i] = random.pick(&edge_values(&good, i));
             }
-            visit(numbers);
+            visit(Sheet::from_numbers(numbers));
         }
     }
 }
 
 /// Both of these as configurations of the replay program.
 pub fn trials(random: &Random, packer: &mut Packer, coverage: &mut Coverage, scale: u32) {
-    let mut visit = |numbers| {
-        let sheet = Sheet::from_numbers(numbers);
-        let calls = trial(random, numbers);
+    let mut visit = |sheet: Sheet| {
+        let calls = trial(random, &sheet);
         count_order(coverage, &sheet);
         count_pairs(coverage, &sheet, &calls);
         packer.group(&calls);
     };
     each_edge(&mut visit);
-    each_fault(random, 4 * scale, &mut visit);
+    each_fault(random, 2 * scale, &mut visit);
 }

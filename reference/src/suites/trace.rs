@@ -55,7 +55,7 @@ impl Trace {
 
     /// Adds one word, whatever the rules say.
     pub fn word(&mut self, word: u32) {
-        self.past.push(word);
+        self.past.push(&self.sheet, word);
         self.words.push(word);
     }
 
@@ -79,7 +79,7 @@ impl Trace {
         if !at_first.is_empty() {
             return at_first;
         }
-        ahead.push(words.0);
+        ahead.push(&self.sheet, words.0);
         ahead.broken(&self.sheet, words.1)
     }
 
@@ -96,7 +96,7 @@ impl Trace {
             if ahead.broken_by(words).is_empty() {
                 return Some(ahead.clock());
             }
-            ahead.past.push(DESL);
+            ahead.past.push(&self.sheet, DESL);
         }
         None
     }

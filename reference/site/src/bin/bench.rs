@@ -8,13 +8,19 @@ use reference::random::Random;
 use reference::script::bytes;
 use reference::sheet::{Sheet, SHEET_E};
 use reference::suites::{load, near, pool};
-use site::{call, plain};
+use site::call::Form;
+use site::plain;
 use std::hint::black_box;
 use std::time::Instant;
 
 const WORDS: usize = 8_000_000;
 const ROUNDS: u32 = 7;
 const SEED: u64 = 0x5EED_0007;
+
+/// The archive's check on a sheet of eight banks.
+fn fcram_check(sheet: &Sheet, trace: &[u8]) -> u32 {
+    Form::OfEight.check(sheet, trace)
+}
 
 /// A checker's answer and its million words a second.
 fn timed(check: fn(&Sheet, &[u8]) -> u32, trace: &[u8]) -> (u32, f64) {
@@ -30,7 +36,7 @@ fn compare(name: &str, words: Vec<u32>) {
     let (mut fcram, mut rust) = (0.0_f64, 0.0_f64);
     for _ in 0..ROUNDS {
         for (best, check) in [
-            (&mut fcram, call::check as fn(&Sheet, &[u8]) -> u32),
+            (&mut fcram, fcram_check as fn(&Sheet, &[u8]) -> u32),
             (&mut rust, plain::check),
         ] {
             let (answer, speed) = timed(check, &trace);

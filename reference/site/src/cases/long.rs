@@ -5,10 +5,10 @@ use reference::hand_in::site_number;
 use reference::judge::LONGEST;
 use reference::random::Random;
 use reference::script::bytes;
-use reference::sheet::{Sheet, SHEET_E};
+use reference::sheet::{Sheet, SHEET_E, SHEET_E_OF_FOUR};
 use reference::suites::load;
 use reference::summary::Summary;
-use reference::word::{CS, DESL, PD};
+use reference::word::{BA2, CS, DESL, FN, PD};
 
 const WORDS: usize = LONGEST as usize;
 const BYTES: usize = WORDS * 4;
@@ -26,6 +26,10 @@ pub fn promised() -> Vec<String> {
         "breach 5 at the last word",
         "breach 3 in the middle",
         "24, one word more",
+        "accepted on four banks",
+        "24 on four banks, one word more",
+        "accepted, two reads at the end",
+        "breach 7 at the last word",
     ]
     .map(name)
     .to_vec();
@@ -85,13 +89,32 @@ impl Long {
 pub fn cases(run: &mut Run, _scale: u32) {
     let random = Random::new(run.random.next64());
     busy(run, &random);
-    idle(run);
-    let mut fast = SHEET_E;
-    (fast.cl, fast.period, fast.refc) = (5, 3750, 63);
-    for sheet in [SHEET_E, fast] {
-        let mixed = load::mixed(&random, &sheet, WORDS);
-        Long::new(sheet, &mixed).compare(run, BYTES, 0, "accepted");
-    }
+    let words = load::idle(&SHEET_E, WORDS);
+    idle(run, &words);
+    two_reads(run, &words);
+    let mixed = load::mixed(&random, &SHEET_E, WORDS);
+    Long::new(SHEET_E, &mixed).compare(run, BYTES, 0, "accepted");
+    four_banks(run, &random);
+}
+
+/// A trace on four banks, on another sheet than E.
+fn four_banks(run: &mut Run, random: &Random) {
+    let mut sheet = SHEET_E_OF_FOUR;
+    (sheet.cl, sheet.period, sheet.refc) = (5, 3750, 63);
+    let mixed = load::mixed(random, &sheet, WORDS);
+    let trace = Long::new(sheet, &mixed);
+    trace.compare(run, BYTES, 0, "accepted on four banks");
+    trace.compare(run, BYTES + 4, 24, "24 on four banks, one word more");
+}
+
+/// An idle trace that ends with two reads, a clock less than RC apart, which differ in BA2 alone.
+fn two_reads(run: &mut Run, idle: &[u32]) {
+    let mut trace = Long::new(SHEET_E, idle);
+    trace.set(LAST - SHEET_E.rc(), PD | FN);
+    trace.set(LAST - 1, PD | FN | BA2);
+    trace.compare(run, BYTES, 0, "accepted, two reads at the end");
+    trace.sheet = SHEET_E_OF_FOUR;
+    trace.compare(run, BYTES, LAST * 64 + 7, "breach 7 at the last word");
 }
 
 /// A busy trace and all that can befall its end.
@@ -119,12 +142,11 @@ fn busy(run: &mut Run, random: &Random) {
 }
 
 /// Idle traces, each refresh at the last clock allowed: at every offset, one missing, one at the end.
-fn idle(run: &mut Run) {
+fn idle(run: &mut Run, words: &[u32]) {
     let none = Long::new(SHEET_E, &vec![DESL; WORDS]);
     none.compare(run, BYTES, 0, "accepted");
 
-    let words = load::idle(&SHEET_E, WORDS);
-    let mut trace = Long::new(SHEET_E, &words);
+    let mut trace = Long::new(SHEET_E, words);
     for offset in 0..4 {
         trace.move_to(offset);
         trace.compare(run, BYTES, 0, &format!("accepted at offset {offset}"));
@@ -135,7 +157,7 @@ fn idle(run: &mut Run) {
     trace.set(first + 1, DESL);
     trace.compare(run, BYTES, (first + 2) * 64 + 3, "breach 3 in the middle");
 
-    let mut trace = Long::new(SHEET_E, &with_refresh_at(&words, LAST));
+    let mut trace = Long::new(SHEET_E, &with_refresh_at(words, LAST));
     trace.compare(run, BYTES, 0, "accepted, REF at the last word");
     // A write's LAL in the place of REF, both lanes reserved.
     trace.set(LAST, DESL);
@@ -144,13 +166,13 @@ fn idle(run: &mut Run) {
     trace.set(LAST, DESL);
     trace.compare(run, BYTES, 0, "accepted");
 
-    let mut trace = Long::new(SHEET_E, &with_refresh_at(&words, LAST - 1));
+    let mut trace = Long::new(SHEET_E, &with_refresh_at(words, LAST - 1));
     trace.compare(run, BYTES, 0, "accepted");
     trace.set(LAST - 2, DESL);
     trace.set(LAST - 1, DESL);
     trace.compare(run, BYTES, LAST * 64 + 3, "breach 3 at the last word");
 
-    let trace = Long::new(SHEET_E, &with_refresh_at(&words, LAST + 1));
+    let trace = Long::new(SHEET_E, &with_refresh_at(words, LAST + 1));
     trace.compare(run, BYTES, 0, "accepted, pair open at the end");
 }
 

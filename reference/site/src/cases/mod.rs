@@ -5,8 +5,11 @@ mod long;
 mod sheets;
 mod traces;
 
+use crate::call::Form;
 use crate::run::Run;
-use reference::suites::near;
+use reference::suites::sheets::{promised_order, REFUSALS};
+use reference::suites::{ba2, near, pool};
+use reference::wiring;
 
 /// A section: its name and its cases.
 pub type Section = (&'static str, fn(&mut Run, u32));
@@ -20,19 +23,34 @@ pub const SECTIONS: [Section; 5] = [
     ("long", long::cases),
 ];
 
+/// Every answer of each of the two calls with each wiring that it can be given.
+fn promised_answers() -> Vec<String> {
+    let mut answers: Vec<String> = (1..=12).map(|n| format!("breach {n}")).collect();
+    answers.push("accepted".to_string());
+    answers.extend([20, 21, 22, 24, 29, 33].map(|n| format!("refused {n}")));
+    let mut promised = Vec::new();
+    for (form, wiring) in [(Form::OfEight, 8), (Form::Wired, 8), (Form::Wired, 4)] {
+        let (call, banks) = (form.name(), wiring::name(wiring));
+        let of_call = answers
+            .iter()
+            .map(|what| format!("{call}: {what}, {banks}"));
+        promised.extend(of_call);
+    }
+    let (call, none) = (Form::Wired.name(), wiring::name(0));
+    promised.push(format!("{call}: refused 20, {none}"));
+    promised.push(format!("{call}: refused 34, {none}"));
+    promised
+}
+
 /// What a run of all sections must meet.
 pub fn promised() -> Vec<String> {
-    let mut promised: Vec<String> = (1..=12).map(|n| format!("breach {n}")).collect();
-    promised.push("accepted".to_string());
-    for number in [20, 21, 22, 24, 29, 33] {
-        promised.push(format!("refused {number}"));
-    }
-    for number in [20, 21, 22, 33] {
+    let mut promised = promised_answers();
+    for number in REFUSALS {
         promised.push(format!("{number} ahead of 29"));
         promised.push(format!("{number} ahead of 24"));
     }
     promised.push("29 ahead of 24".to_string());
-    promised.extend(reference::suites::sheets::promised_order());
+    promised.extend(promised_order());
     for address in 0..4 {
         promised.push(format!("judged at address {address} modulo 4"));
     }
@@ -46,6 +64,9 @@ pub fn promised() -> Vec<String> {
     ];
     promised.extend(others.map(str::to_string));
     promised.extend(near::promised());
+    for sheet in pool::parts() {
+        promised.extend(ba2::promised(sheet.bl, sheet.wiring));
+    }
     promised.extend(long::promised());
     promised
 }

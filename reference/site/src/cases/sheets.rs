@@ -1,9 +1,7 @@
 //! Sheets at and around every edge, and with several fields unfit, on traces that are unfit too.
 
-use crate::call;
 use crate::memory::Zeros;
 use crate::run::Run;
-use reference::hand_in::site_refusal;
 use reference::judge::LONGEST;
 use reference::random::Random;
 use reference::script::bytes;
@@ -32,24 +30,18 @@ const REFUSED: [usize; 12] = [
 pub fn cases(run: &mut Run, scale: u32) {
     let zeros = Zeros::new((1 << 34) + 8);
     let random = Random::new(run.random.next64());
-    each_edge(&mut |numbers| trial(run, &random, &zeros, numbers));
-    each_fault(&random, 8 * scale, &mut |numbers| {
-        trial(run, &random, &zeros, numbers)
+    each_edge(&mut |sheet| trial(run, &random, &zeros, &sheet));
+    each_fault(&random, 4 * scale, &mut |sheet| {
+        trial(run, &random, &zeros, &sheet)
     });
 }
 
 /// A sheet with one short trace and one length that is refused; with the null pointer, and with
 /// other upper halves of the numbers.
-fn trial(run: &mut Run, random: &Random, zeros: &Zeros, numbers: [u32; 10]) {
-    let sheet = Sheet::from_numbers(numbers);
+fn trial(run: &mut Run, random: &Random, zeros: &Zeros, sheet: &Sheet) {
     let short = random.pick(&[&[][..], &[DESL], &[0], &[DESL, 0x10_0000]]);
-    run.short(&sheet, &bytes(short));
-    run.refused(&sheet, &zeros.bytes()[..random.pick(&REFUSED)]);
-
-    let wanted = site_refusal(&sheet, 0).unwrap_or(0);
-    run.settle(&sheet, &[], wanted, call::check_null(&sheet));
-    run.coverage.meet("no bytes at the null pointer");
-    let dirt = random.pick(&[1, u32::MAX, random.bits() | 1]);
-    run.settle(&sheet, &[], wanted, call::check_dirty(&sheet, &[], dirt));
-    run.coverage.meet("numbers with other upper halves");
+    run.short(sheet, &bytes(short));
+    run.refused(sheet, &zeros.bytes()[..random.pick(&REFUSED)]);
+    run.null(sheet);
+    run.dirty(sheet, &[], random.pick(&[1, u32::MAX, random.bits() | 1]));
 }

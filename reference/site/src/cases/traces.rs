@@ -1,13 +1,13 @@
 //! Traces near the edges of the rules on many sheets, words at random, dense and damaged traces.
 
-use crate::call;
+use crate::call::Form;
 use crate::run::{fail, Run};
 use reference::both::Both;
 use reference::hand_in::site_number;
 use reference::random::Random;
 use reference::script::bytes;
 use reference::sheet::Sheet;
-use reference::suites::{long, near, pool};
+use reference::suites::{ba2, long, near, pool};
 use std::thread;
 
 pub fn cases(run: &mut Run, scale: u32) {
@@ -23,6 +23,13 @@ pub fn cases(run: &mut Run, scale: u32) {
                 judged(run, &random, sheet, words);
             },
         );
+        run.coverage.add(coverage);
+    }
+    for sheet in pool::parts() {
+        let mut coverage = std::mem::take(&mut run.coverage);
+        ba2::each(&random, &sheet, &mut coverage, &mut |_, words| {
+            judged(run, &random, &sheet, words)
+        });
         run.coverage.add(coverage);
     }
     for _ in 0..4_000 * scale {
@@ -42,9 +49,7 @@ fn judged(run: &mut Run, random: &Random, sheet: &Sheet, words: &[u32]) {
         run.short(sheet, &trace[..trace.len() - random.between(1, 3) as usize]);
     }
     if random.once_in(4) {
-        let wanted = site_number::<Both>(sheet, &trace);
-        let got = call::check_dirty(sheet, &trace, random.bits());
-        run.settle(sheet, &trace, wanted, got);
+        run.dirty(sheet, &trace, random.bits());
     }
 }
 
@@ -72,16 +77,19 @@ pub fn threads(run: &mut Run, scale: u32) {
         cases.push((sheet, trace, wanted));
     }
     let check = |(sheet, trace, wanted): &(Sheet, Vec<u8>, u32)| {
-        let got = call::check(sheet, trace);
-        if got != *wanted {
-            let with = "by two threads at once";
-            fail(sheet, trace, &wanted.to_string(), &format!("{got} {with}"));
+        for form in Form::of(sheet) {
+            let got = form.check(sheet, trace);
+            if got != *wanted {
+                let with = "by two threads at once";
+                fail(sheet, trace, &wanted.to_string(), &format!("{got} {with}"));
+            }
         }
     };
     thread::scope(|scope| {
         scope.spawn(|| (0..20).for_each(|_| cases.iter().for_each(check)));
         scope.spawn(|| (0..20).for_each(|_| cases.iter().rev().for_each(check)));
     });
-    run.calls += 40 * cases.len() as u64;
+    let calls: usize = cases.iter().map(|case| Form::of(&case.0).len()).sum();
+    run.calls += 40 * calls as u64;
     run.coverage.meet("calls from two threads at once");
 }

@@ -1,8 +1,8 @@
 //! Cases for the steps and walks of a checker.
 
 use super::forge::{
-    around, bare_checker, damage, delay_events, put_events, put_refs, some_clock, spoil_sheet,
-    CLOCKS,
+    around, bare_checker, damage, delay_events, put_events, put_refs, rewire, some_clock,
+    spoil_sheet, CLOCKS,
 };
 use super::run::CheckerRun;
 use crate::both::Both;
@@ -99,7 +99,7 @@ pub fn forged(random: &Random, packer: &mut Packer, coverage: &mut Coverage) {
     trial(random, packer, coverage, vec![], &numbers);
 }
 
-/// A state that steps over a trace made, then with one number changed.
+/// A state that steps over a trace made, then with one number changed, at times the wiring.
 pub fn near_real(random: &Random, packer: &mut Packer, coverage: &mut Coverage) {
     let sheet = pool::sheet(random);
     let mut words = near::near_words(random, &mut Coverage::default(), sheet, random.bits());
@@ -108,12 +108,14 @@ pub fn near_real(random: &Random, packer: &mut Packer, coverage: &mut Coverage) 
     for &word in &words {
         checker.step(word);
     }
-    let mut before = vec![pool::config(&sheet)];
+    let mut before = vec![pool::config(random, &sheet)];
     before.extend(checker::steps(&words));
     before.push(Call::ShowChecker);
     let mut numbers = state::checker_numbers(&checker);
-    if !random.once_in(8) {
-        damage(random, &mut numbers);
+    match random.below(8) {
+        0 => {}
+        1 => rewire(coverage, "checker", &mut numbers),
+        _ => damage(random, &mut numbers),
     }
     trial(random, packer, coverage, before, &numbers);
 }
@@ -158,7 +160,8 @@ fn trial(
     numbers: &CheckerNumbers,
 ) {
     let sheet = state::checker(numbers).sheet;
-    let mut run = CheckerRun::put(coverage, &pool::sheet(random), before, numbers);
+    let config = pool::config(random, &pool::sheet(random));
+    let mut run = CheckerRun::put(coverage, config, before, numbers);
     let word = || some_word(random, &sheet, numbers[OPEN]);
     let walk_first = random.once_in(2);
     if walk_first {

@@ -2,7 +2,7 @@
 
 use super::forge::{
     around, bare_controller, damage, delay_events, put_events, put_modes, put_place, put_refs,
-    some_clock, some_request, spoil_sheet, CLOCKS,
+    rewire, some_clock, some_request, spoil_sheet, CLOCKS,
 };
 use super::run::{ControllerRun, Form};
 use crate::both::Both;
@@ -13,8 +13,9 @@ use crate::random::Random;
 use crate::script::{Call, Packer};
 use crate::sheet::Sheet;
 use crate::state::{self, ControllerNumbers, EVENT, OPEN};
-use crate::suites::pool;
+use crate::suites::{by_wiring, pool};
 use crate::summary::EVENTS;
+use crate::wiring::{greatest_bank, greatest_row};
 
 /// Counts on either side of the capacity.
 const COUNTS: [u32; 7] = [0, 1, 2, 15, 16, 17, u32::MAX];
@@ -26,8 +27,10 @@ const FORMS: [Form; 2] = [Form::Value, Form::Lent];
 pub fn promised() -> Vec<String> {
     let mut promised = Vec::new();
     for call in ["offer", "lent offer", "tick", "lent tick"] {
-        promised.push(format!("{call}: sixteen wait"));
-        promised.extend(Request::FIELDS.map(|name| format!("{call}: {name} at its greatest")));
+        promised.extend(by_wiring(&format!("{call}: sixteen wait")));
+        for name in Request::FIELDS {
+            promised.extend(by_wiring(&format!("{call}: {name} at its greatest")));
+        }
     }
     promised
 }
@@ -48,8 +51,9 @@ pub fn edges(random: &Random, packer: &mut Packer, coverage: &mut Coverage) {
             }
         }
     }
-    for sheet in pool::parts().iter().filter(|sheet| sheet.cl == 4) {
-        queues(random, packer, coverage, sheet);
+    let parts = pool::parts().into_iter().filter(|s| s.grade == 37);
+    for sheet in parts.filter(|s| s.cl == 4) {
+        queues(random, packer, coverage, &sheet);
     }
 }
 
@@ -79,8 +83,8 @@ fn unfit_request(random: &Random, sheet: &Sheet, field: usize) -> [u32; 6] {
     let write = request[0] != 0;
     let beyond = if sheet.bl == 4 { 5 } else { 4 };
     request[field] = match field {
-        1 => 8,
-        2 => 16_384,
+        1 => greatest_bank(sheet) + 1,
+        2 => greatest_row(sheet) + 1,
         3 => column_pins(sheet) + 1,
         _ if !write || (field == 5 && sheet.org == 8) => 1,
         _ => random.pick(&[0, 3, beyond]),
@@ -159,11 +163,11 @@ fn damage_but_open(random: &Random, numbers: &mut ControllerNumbers) {
     }
 }
 
-/// A state that offers and ticks made, then with one number changed.
+/// A state that offers and ticks made, then with one number changed, at times the wiring.
 pub fn near_real(random: &Random, packer: &mut Packer, coverage: &mut Coverage) {
     let sheet = pool::sheet(random);
     let mut controller = Controller::<Both>::fresh(sheet);
-    let mut before = vec![pool::config(&sheet)];
+    let mut before = vec![pool::config(random, &sheet)];
     for _ in 0..random.below(24) {
         if random.once_in(2) {
             let request = some_request(random, &sheet);
@@ -177,8 +181,10 @@ pub fn near_real(random: &Random, packer: &mut Packer, coverage: &mut Coverage) 
     }
     before.push(Call::ShowController);
     let mut numbers = state::controller_numbers(&controller);
-    if !random.once_in(8) {
-        damage_but_open(random, &mut numbers);
+    match random.below(8) {
+        0 => {}
+        1 => rewire(coverage, "controller", &mut numbers),
+        _ => damage_but_open(random, &mut numbers),
     }
     trial(random, packer, coverage, before, &numbers);
 }
@@ -203,7 +209,8 @@ fn trial(
     before: Vec<Call>,
     numbers: &ControllerNumbers,
 ) {
-    let mut run = ControllerRun::put(coverage, &pool::sheet(random), before, numbers);
+    let config = pool::config(random, &pool::sheet(random));
+    let mut run = ControllerRun::put(coverage, config, before, numbers);
     let sheet = run.controller.sheet;
     let start = random.below(6);
     for turn in start..start + 6 {

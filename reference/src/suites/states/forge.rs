@@ -1,16 +1,22 @@
 //! Numbers for states: whole ones, single events, damage.
 
+use crate::coverage::Coverage;
 use crate::judge::LONGEST;
 use crate::pair::{column_pins, Request};
 use crate::random::Random;
-use crate::sheet::Sheet;
-use crate::state::{CheckerNumbers, ControllerNumbers, CLOCK, COUNT, EVENT, OPEN, PLACE};
+use crate::sheet::{Sheet, NUMBERS};
+use crate::state::{CheckerNumbers, ControllerNumbers, CHECKER, CONTROLLER};
+use crate::state::{CLOCK, COUNT, EVENT, OPEN, PLACE};
 use crate::suites::pool;
 use crate::summary::EVENTS;
+use crate::wiring::{self, greatest_bank, greatest_row};
 use std::ops::Range;
 
 /// Where the REF words of a state are, the last one first.
 const REFS: Range<usize> = EVENT + 13..EVENT + EVENTS;
+
+/// Where the wiring of a state's sheet is.
+const WIRING: usize = NUMBERS - 1;
 
 /// Clocks on either side of each edge.
 pub const CLOCKS: [u32; 8] = [0, 1, 2, 40, LONGEST - 1, LONGEST, LONGEST + 1, u32::MAX];
@@ -27,8 +33,8 @@ pub fn around(clock: u32) -> [u32; 4] {
 
 /// A checker that remembers nothing.
 pub fn bare_checker(sheet: &Sheet, clock: u32, first: u32) -> CheckerNumbers {
-    let mut numbers = [0; 35];
-    numbers[..10].copy_from_slice(&sheet.numbers());
+    let mut numbers = [0; CHECKER];
+    numbers[..NUMBERS].copy_from_slice(&sheet.numbers());
     numbers[CLOCK] = clock;
     numbers[OPEN] = first;
     numbers
@@ -40,8 +46,8 @@ pub fn bare_controller(
     sheet: &Sheet,
     (clock, opened, count): (u32, u32, u32),
 ) -> ControllerNumbers {
-    let mut numbers = [0; 130];
-    numbers[..10].copy_from_slice(&sheet.numbers());
+    let mut numbers = [0; CONTROLLER];
+    numbers[..NUMBERS].copy_from_slice(&sheet.numbers());
     numbers[CLOCK] = clock;
     numbers[OPEN] = opened;
     numbers[COUNT] = count;
@@ -67,7 +73,7 @@ pub fn put_place(numbers: &mut ControllerNumbers, place: usize, request: [u32; 6
 pub fn some_request(random: &Random, sheet: &Sheet) -> Request {
     let mut request = pool::request(random, sheet, random.once_in(2), random.below(8));
     if random.once_in(6) {
-        (request.bank, request.row) = (7, 16_383);
+        (request.bank, request.row) = (greatest_bank(sheet), greatest_row(sheet));
         request.column = column_pins(sheet);
         request.lower = if request.write { sheet.bl } else { 0 };
         request.upper = if sheet.org == 16 { request.lower } else { 0 };
@@ -176,6 +182,10 @@ pub fn spoil_sheet(random: &Random, numbers: &mut [u32]) {
 /// Puts a number of the sheet out of its range.
 fn put_out_of_range(random: &Random, numbers: &mut [u32]) {
     let (field, value) = random.pick(&[
+        (WIRING, 0),
+        (WIRING, 5),
+        (WIRING, 16),
+        (WIRING, u32::MAX),
         (0, 38),
         (1, 6),
         (2, 3),
@@ -190,6 +200,18 @@ fn put_out_of_range(random: &Random, numbers: &mut [u32]) {
         (9, 14),
     ]);
     numbers[field] = value;
+}
+
+/// The name of a state that was made with one wiring and is put with the other.
+pub fn rewired_name(state: &str) -> String {
+    format!("{state} of the other wiring put")
+}
+
+/// Puts the other wiring into a state's sheet, which is an accepted one.
+pub fn rewire(coverage: &mut Coverage, state: &str, numbers: &mut [u32]) {
+    numbers[WIRING] = 12 - numbers[WIRING];
+    let banks = wiring::name(numbers[WIRING]);
+    coverage.meet(&format!("{}, {banks}", rewired_name(state)));
 }
 
 /// Puts some events not before the clock.

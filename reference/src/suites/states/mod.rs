@@ -8,12 +8,13 @@ mod limit;
 mod meet;
 mod run;
 
-use super::names;
+use super::{by_wiring, names, refusals};
 use crate::coverage::Coverage;
 use crate::ground::{Ground, LATE_CLOCK, NO_REQUEST, OPEN_AT_0, TOO_MANY};
 use crate::pair::Request;
 use crate::random::Random;
 use crate::script::{bytes, Call, Packer};
+use crate::state::{CHECKER, CONTROLLER, OPEN};
 use crate::summary::NAMES;
 use crate::word::{DESL, FN, PD};
 
@@ -39,6 +40,9 @@ pub fn promised() -> Vec<String> {
         promised.extend(limit::promised_pairs(call));
     }
     promised.extend(controllers::promised());
+    for state in ["checker", "controller"] {
+        promised.extend(by_wiring(&forge::rewired_name(state)));
+    }
     promised.push("script refused".to_string());
     promised
 }
@@ -54,11 +58,12 @@ fn answers() -> Vec<String> {
     ]
     .concat();
     for number in 1..=12 {
-        promised.push(format!("2 breach {number}"));
-        promised.push(format!("108 breach {number}"));
+        let breach = format!("breach {number}");
+        promised.extend(names(2, &[&breach]));
+        promised.extend(names(108, &[&breach]));
     }
     for code in [2, 4, 5, 11, 12, 108] {
-        promised.extend([20, 21, 22, 33].map(|n| format!("{code} refused {n}")));
+        promised.extend(refusals(code, "refused"));
     }
     for code in [4, 11] {
         promised.extend(names(
@@ -70,7 +75,8 @@ fn answers() -> Vec<String> {
         promised.extend(names(code, &["word", "clock", "refused 19", "refused 24"]));
     }
     for code in [105, 106] {
-        promised.extend([0, 19, 20, 21, 22, 24, 33].map(|n| format!("{code} tick {n}")));
+        promised.extend(names(code, &["tick 0", "tick 19", "tick 24"]));
+        promised.extend(refusals(code, "tick"));
     }
     promised
 }
@@ -121,8 +127,8 @@ fn tallies(random: &Random, packer: &mut Packer) {
 /// Scripts that end inside each of these calls, and numbers that name no call.
 fn cut_short(packer: &mut Packer) {
     let calls = [
-        Call::PutChecker(Box::new([7; 35])),
-        Call::PutController(Box::new([3; 130])),
+        Call::PutChecker(Box::new([7; CHECKER])),
+        Call::PutController(Box::new([3; CONTROLLER])),
         Call::CountAnyway(vec![DESL; 5]),
         Call::Advance(vec![DESL; 5]),
     ];
@@ -135,8 +141,8 @@ fn cut_short(packer: &mut Packer) {
     }
     for opened in 0..8 {
         let mut script = vec![102];
-        script.extend([1; 130]);
-        script[12] = opened;
+        script.extend([1; CONTROLLER]);
+        script[1 + OPEN] = opened;
         script.extend([104, 105, 103]);
         packer.raw(&bytes(&script));
     }

@@ -12,21 +12,17 @@ use crate::pair::Request;
 use crate::past::Past;
 use crate::queue::CAPACITY;
 use crate::script::{Call, Packer};
-use crate::sheet::Sheet;
 use crate::state::{self, CheckerNumbers, ControllerNumbers};
-use crate::suites::pool;
-use crate::summary::NAMES;
 use crate::walk::Walk;
-use crate::word::{FN, PD};
+use crate::wiring;
+use crate::word::{BA2, DESL, FN, PD};
 
-/// The events of a past by name.
-fn events(past: &Both) -> Vec<(&'static str, u32)> {
-    NAMES.into_iter().zip(past.summary().events()).collect()
-}
-
-/// What shows that the configuration stayed: a mode that one CL and BL fit, and the other state.
-fn ending(other: Call) -> [Call; 2] {
-    [Call::ReadPair(PD | FN, PD | 0x42), other]
+/// What shows that the configuration stayed: a mode that one CL and BL fit, a read that the wiring
+/// decides the bank of, and the other state.
+fn ending(other: Call) -> [Call; 3] {
+    let mode = Call::ReadPair(PD | FN, PD | 0x42);
+    let read = Call::ReadPair(PD | FN | BA2, DESL);
+    [mode, read, other]
 }
 
 /// A checker that was put, and its calls.
@@ -40,11 +36,11 @@ impl<'a> CheckerRun<'a> {
     /// On a configuration of its own, after other calls.
     pub fn put(
         coverage: &'a mut Coverage,
-        sheet: &Sheet,
+        config: Call,
         before: Vec<Call>,
         numbers: &CheckerNumbers,
     ) -> CheckerRun<'a> {
-        let mut calls = vec![pool::config(sheet)];
+        let mut calls = vec![config];
         calls.extend(before);
         calls.push(Call::PutChecker(Box::new(*numbers)));
         calls.push(Call::ShowChecker);
@@ -57,10 +53,11 @@ impl<'a> CheckerRun<'a> {
 
     /// Counts what stands at a call, in the order in which it is answered.
     fn count(&mut self, call: &str, at_end: bool) {
-        let (clock, grounds) = (self.checker.past.clock(), self.checker.grounds());
-        let mut standing = of_state(&self.checker.sheet, &grounds);
+        let (sheet, past) = (&self.checker.sheet, self.checker.past.summary());
+        let (clock, grounds) = (past.clock(), self.checker.grounds());
+        let mut standing = of_state(sheet, &grounds);
         if standing.is_empty() {
-            meet_latest(self.coverage, call, clock, &events(&self.checker.past));
+            meet_latest(self.coverage, call, sheet, past);
         }
         let further = [
             (at_end, "end"),
@@ -69,7 +66,7 @@ impl<'a> CheckerRun<'a> {
         ];
         let stands = further.into_iter().filter(|(stands, _)| *stands);
         standing.extend(stands.map(|(_, answer)| answer.to_string()));
-        meet(self.coverage, call, &grounds, &standing);
+        meet(self.coverage, call, sheet, &grounds, &standing);
         if standing.is_empty() {
             self.count_limit(call);
         }
@@ -131,11 +128,11 @@ impl<'a> ControllerRun<'a> {
     /// On a configuration of its own, after other calls.
     pub fn put(
         coverage: &'a mut Coverage,
-        sheet: &Sheet,
+        config: Call,
         before: Vec<Call>,
         numbers: &ControllerNumbers,
     ) -> ControllerRun<'a> {
-        let mut calls = vec![pool::config(sheet)];
+        let mut calls = vec![config];
         calls.extend(before);
         calls.push(Call::PutController(Box::new(*numbers)));
         calls.extend([Call::ShowController, Call::Waiting]);
@@ -149,30 +146,30 @@ impl<'a> ControllerRun<'a> {
     /// Counts what stands at a call: the state's refusals, then those of the call itself. True if
     /// nothing does.
     fn count(&mut self, call: &str, further: &[(bool, &str)]) -> bool {
-        let (clock, grounds) = (self.controller.past.clock(), self.controller.grounds());
-        let mut standing = of_state(&self.controller.sheet, &grounds);
+        let sheet = self.controller.sheet;
+        let grounds = self.controller.grounds();
+        let mut standing = of_state(&sheet, &grounds);
         if standing.is_empty() {
-            meet_latest(self.coverage, call, clock, &events(&self.controller.past));
+            meet_latest(self.coverage, call, &sheet, self.controller.past.summary());
             self.count_fullest(call);
         }
         let stands = further.iter().filter(|(stands, _)| *stands);
         standing.extend(stands.map(|(_, answer)| answer.to_string()));
-        meet(self.coverage, call, &grounds, &standing);
+        meet(self.coverage, call, &sheet, &grounds, &standing);
         standing.is_empty()
     }
 
     /// Counts sixteen waiting, and waiting fields at their greatest.
     fn count_fullest(&mut self, call: &str) {
-        let queue = &self.controller.queue;
+        let (queue, sheet) = (&self.controller.queue, &self.controller.sheet);
+        let banks = wiring::name(sheet.wiring);
         if queue.count as usize == CAPACITY {
-            self.coverage.meet(&format!("{call}: sixteen wait"));
+            self.coverage
+                .meet(&format!("{call}: sixteen wait, {banks}"));
         }
-        for request in queue.waiting() {
-            let greatest = request.greatest(&self.controller.sheet);
-            for name in greatest {
-                self.coverage
-                    .meet(&format!("{call}: {name} at its greatest"));
-            }
+        for name in queue.waiting().iter().flat_map(|r| r.greatest(sheet)) {
+            self.coverage
+                .meet(&format!("{call}: {name} at its greatest, {banks}"));
         }
     }
 
