@@ -1,6 +1,7 @@
 //! From text to words.
 
-use crate::command::{Command, Format};
+use crate::command::Command;
+use crate::format::{Format, Given};
 use crate::kind::{open_after, Kind};
 use crate::line::{parse, Line};
 use crate::lines::Lines;
@@ -44,10 +45,14 @@ impl From<String> for Wrong {
 /// What a line is worth a warning for, or what is wrong.
 type Outcome = Result<Option<String>, Wrong>;
 
-/// Assembles a text; one with a wrong line gives nothing. No more is read once enough lines are found wrong.
-pub fn assemble(text: impl BufRead) -> Result<Assembled, Failure> {
+/// Assembles a text, for a wiring if one is asked for. A text with a wrong line gives nothing, and no more is read once enough lines are
+/// found wrong.
+pub fn assemble(text: impl BufRead, wiring: Option<u32>) -> Result<Assembled, Failure> {
     let mut lines = Lines::new(text);
-    let mut assembler = Assembler::default();
+    let mut assembler = Assembler {
+        asked: wiring,
+        ..Assembler::default()
+    };
     let (mut faults, mut warnings) = (Remarks::default(), Remarks::default());
     while !faults.more() && lines.advance()? {
         let line = lines.line().map_err(Wrong::Rest);
@@ -70,11 +75,13 @@ pub fn assemble(text: impl BufRead) -> Result<Assembled, Failure> {
     }
 }
 
-/// What the lines so far have given.
+/// What the call asks for, and what the lines so far have given.
 #[derive(Default)]
 struct Assembler {
-    bl: Option<u32>,
-    organisation: Option<u32>,
+    /// The wiring, if it is asked for.
+    asked: Option<u32>,
+    /// The format, as far as lines say it.
+    said: Given,
     /// The clock of the next word.
     clock: u64,
     /// The first word of the open pair.
@@ -92,24 +99,30 @@ impl Assembler {
             Some(Line::At(clock)) => return self.at(clock),
             Some(Line::Byte(byte)) => self.byte(byte)?,
             Some(Line::Bl(bl)) => {
-                self.before_all("bl", self.bl.is_some())?;
-                self.bl = Some(bl);
+                self.before_all("bl", self.said.bl.is_some())?;
+                self.said.bl = Some(bl);
             }
             Some(Line::Organisation(organisation)) => {
-                self.before_all("organisation", self.organisation.is_some())?;
-                self.organisation = Some(organisation);
+                self.before_all("organisation", self.said.organisation.is_some())?;
+                self.said.organisation = Some(organisation);
+            }
+            Some(Line::Wiring(wiring)) => {
+                self.before_all("wiring", self.said.wiring.is_some())?;
+                self.as_asked(wiring)?;
+                self.said.wiring = Some(wiring);
             }
         }
         Ok(None)
     }
 
-    /// The format by the lines so far.
+    /// The format by the call and the lines so far.
     fn format(&self) -> Format {
-        let usual = Format::default();
-        Format {
-            bl: self.bl.unwrap_or(usual.bl),
-            organisation: self.organisation.unwrap_or(usual.organisation),
+        let wiring = self.said.wiring.or(self.asked);
+        Given {
+            wiring,
+            ..self.said
         }
+        .format()
     }
 
     /// A line on the format stands before all words, once.
@@ -121,6 +134,16 @@ impl Assembler {
             return Err(format!("{name} stands after the first word"));
         }
         Ok(())
+    }
+
+    /// A wiring that a line says is the one asked for, if one is.
+    fn as_asked(&self, wiring: u32) -> Result<(), String> {
+        match self.asked {
+            Some(asked) if asked != wiring => {
+                Err(format!("wiring {wiring} contradicts --wiring {asked}"))
+            }
+            _ => Ok(()),
+        }
     }
 
     /// Adds a command, so many times.

@@ -1,6 +1,6 @@
 //! The fields of a line: names with values.
 
-use crate::command::{Format, Lane};
+use crate::format::{Format, Lane};
 use crate::LONGEST;
 use std::collections::HashSet;
 use std::ops::RangeInclusive;
@@ -26,13 +26,20 @@ impl<'a> Fields<'a> {
         Ok(Fields(fields))
     }
 
+    /// The place of a field that the line may have.
+    fn place(&self, name: &str) -> Option<usize> {
+        let mut names = self.0.iter().map(|(name, _)| name);
+        names.position(|found| found.eq_ignore_ascii_case(name))
+    }
+
+    /// The value of a field that the line may have.
+    fn value(&self, name: &str) -> Option<&'a str> {
+        self.place(name).and_then(|place| self.0[place].1)
+    }
+
     /// Takes the value of a field that the line may have.
     fn take(&mut self, name: &str) -> Outcome<Option<&'a str>> {
-        let place = self
-            .0
-            .iter()
-            .position(|(found, _)| found.eq_ignore_ascii_case(name));
-        match place.map(|place| self.0.remove(place)) {
+        match self.place(name).map(|place| self.0.remove(place)) {
             None => Ok(None),
             Some((_, Some(value))) => Ok(Some(value)),
             Some((_, None)) => Err(format!("{name} has no value")),
@@ -80,8 +87,22 @@ impl<'a> Fields<'a> {
     }
 
     /// Takes the bank and the row.
-    pub fn bank_and_row(&mut self) -> Outcome<(u32, u32)> {
-        Ok((self.number("bank", 7)?, self.number("row", 16_383)?))
+    pub fn bank_and_row(&mut self, format: Format) -> Outcome<(u32, u32)> {
+        let bank = self.wired("bank", format, Format::last_bank)?;
+        let row = self.wired("row", format, Format::last_row)?;
+        Ok((bank, row))
+    }
+
+    /// Takes a number whose greatest goes by the wiring; of one that only the other wiring has, that is said too.
+    fn wired(&mut self, name: &str, format: Format, last: fn(Format) -> u32) -> Outcome<u32> {
+        let other = format.rewired();
+        let value = self.value(name).and_then(number);
+        self.number(name, last(format)).map_err(|what| match value {
+            Some(value) if value <= u64::from(last(other)) => {
+                format!("{what}; wiring {} has that {name}", other.wiring)
+            }
+            _ => what,
+        })
     }
 
     /// Takes a lane, if the line has it.

@@ -1,7 +1,8 @@
 //! What a word is in its place in the trace, and the command that it is listed as.
 
-use crate::command::{Command, Format, LOWER, UPPER};
-use crate::pins::{high, number, BA0, BANK_SHIFT, CS, FN};
+use crate::command::Command;
+use crate::format::{Format, LOWER, UPPER};
+use crate::pins::{high, number, BA0, CS, FN};
 
 /// What a word is by CS, FN and the pair that is open.
 #[derive(Clone, Copy, Debug, PartialEq, Eq)]
@@ -61,8 +62,7 @@ impl Kind {
 
     /// The command by the fields of the word; its other pins are not looked at.
     fn named(self, format: Format, word: u32) -> Option<Command> {
-        let bank = number(word, BANK_SHIFT, 3);
-        let row = number(word, 0, 14);
+        let (bank, row) = format.bank_and_row(word);
         let column = number(word, 0, format.column_pins());
         let (mut lower, mut upper) = (None, None);
         if self == Kind::WriteLal {
@@ -118,8 +118,12 @@ mod tests {
     /// Whatever a word is taken for, the command read from it gives it back.
     #[test]
     fn every_word_comes_back() {
-        for (bl, organisation) in [(4, 16), (4, 8), (2, 16), (2, 8)] {
-            let format = Format { bl, organisation };
+        let formats = [(4, 16), (4, 8), (2, 16), (2, 8)].map(|(bl, organisation)| Format {
+            bl,
+            organisation,
+            ..Format::default()
+        });
+        for format in formats.iter().flat_map(|eight| [*eight, eight.rewired()]) {
             for kind in KINDS {
                 for word in 0..1 << 21 {
                     assert_eq!(kind.read(format, word).word(), word);

@@ -3,6 +3,7 @@
 mod assemble;
 mod command;
 mod fields;
+mod format;
 mod kind;
 mod line;
 mod lines;
@@ -12,7 +13,7 @@ mod remarks;
 mod runs;
 
 pub use assemble::{assemble, Assembled, Failure};
-pub use command::Format;
+pub use format::{Format, Given};
 pub use lines::{LONGEST_LINE, LONGEST_TEXT};
 pub use list::list;
 pub use remarks::Remarks;

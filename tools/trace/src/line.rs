@@ -1,7 +1,8 @@
 //! One line of the text: a command, or an instruction to the assembler.
 
-use crate::command::{Command, Format};
+use crate::command::Command;
 use crate::fields::{Fields, Outcome};
+use crate::format::Format;
 use crate::LONGEST;
 
 /// What a line says.
@@ -15,6 +16,7 @@ pub enum Line {
     Byte(u8),
     Bl(u32),
     Organisation(u32),
+    Wiring(u32),
 }
 
 /// Reads a line; none if it is blank or holds a comment alone.
@@ -34,6 +36,9 @@ fn instruction(tokens: &[&str], format: Format) -> Outcome<Line> {
         "bl" => own(tokens, |own| own.one_of("bl", &[2, 4]).map(Line::Bl)),
         "organisation" => own(tokens, |own| {
             own.one_of("organisation", &[8, 16]).map(Line::Organisation)
+        }),
+        "wiring" => own(tokens, |own| {
+            own.one_of("wiring", &[4, 8]).map(Line::Wiring)
         }),
         "at" => own(tokens, |own| own.needed("at", 0..=LONGEST).map(Line::At)),
         "byte" => own(tokens, |own| {
@@ -63,11 +68,11 @@ fn command(name: &str, rest: &[&str], format: Format) -> Outcome<Line> {
         "DESL" => Command::Desl,
         "REF" => Command::Ref,
         "RDA" => {
-            let (bank, row) = fields.bank_and_row()?;
+            let (bank, row) = fields.bank_and_row(format)?;
             Command::Rda { bank, row }
         }
         "WRA" => {
-            let (bank, row) = fields.bank_and_row()?;
+            let (bank, row) = fields.bank_and_row(format)?;
             Command::Wra { bank, row }
         }
         "LAL" => Command::Lal {

@@ -1,6 +1,7 @@
 //! From words to text.
 
-use crate::command::{Command, Format};
+use crate::command::Command;
+use crate::format::Format;
 use crate::kind::{open_after, Kind};
 use crate::pins::{high, CS};
 use std::io::{self, Write};
@@ -40,6 +41,9 @@ fn heading(words: usize, format: Format, out: &mut impl Write) -> io::Result<()>
     }
     if format.organisation != usual.organisation {
         writeln!(out, "organisation {}", format.organisation)?;
+    }
+    if format.wiring != usual.wiring {
+        writeln!(out, "wiring {}", format.wiring)?;
     }
     Ok(())
 }

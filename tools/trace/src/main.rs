@@ -6,17 +6,17 @@ use files::{Input, Output, STANDARD};
 use std::ffi::{OsStr, OsString};
 use std::io::{self, BufReader, Write};
 use std::process::ExitCode;
-use trace::{assemble, list, Failure, Format, LONGEST};
+use trace::{assemble, list, Failure, Format, Given, LONGEST};
 
 const USAGE: &str = "usage:
-  trace assemble [TEXT [TRACE]]                                  from text to words
-  trace list [--bl 2|4] [--organisation 8|16] [TRACE [TEXT]]     from words to text
-A file that is left out, or is -, is standard input or output. BL 4, by 16 unless given.";
+  trace assemble [--wiring 4|8] [TEXT [TRACE]]                                  from text to words
+  trace list [--bl 2|4] [--organisation 8|16] [--wiring 4|8] [TRACE [TEXT]]     from words to text
+A file that is left out, or is -, is standard input or output. BL 4, by 16, eight banks unless given.";
 
 /// What the arguments ask for.
 struct Call {
     listing: bool,
-    format: Format,
+    given: Given,
     input: OsString,
     output: OsString,
 }
@@ -49,29 +49,41 @@ fn call(arguments: &[OsString]) -> Option<Call> {
         "list" => true,
         _ => return None,
     };
-    let mut format = Format::default();
+    let mut given = Given::default();
     let mut files = Vec::new();
     while let Some(argument) = arguments.next() {
         if !argument.as_encoded_bytes().starts_with(b"--") {
             files.push(argument.clone());
             continue;
         }
-        match argument.to_str()? {
-            "--bl" if listing => format.bl = one_of(arguments.next()?, [2, 4])?,
-            "--organisation" if listing => {
-                format.organisation = one_of(arguments.next()?, [8, 16])?;
-            }
-            _ => return None,
+        let (place, values) = option(argument.to_str()?, listing, &mut given)?;
+        let value = one_of(arguments.next()?, values)?;
+        if place.replace(value).is_some() {
+            return None;
         }
     }
     let mut files = files.into_iter();
     let call = Call {
         listing,
-        format,
+        given,
         input: files.next().unwrap_or(STANDARD.into()),
         output: files.next().unwrap_or(STANDARD.into()),
     };
     files.next().is_none().then_some(call)
+}
+
+/// The place of an option's value, and the two values there are; none if the command has no such option.
+fn option<'a>(
+    name: &str,
+    listing: bool,
+    given: &'a mut Given,
+) -> Option<(&'a mut Option<u32>, [u32; 2])> {
+    match name {
+        "--bl" if listing => Some((&mut given.bl, [2, 4])),
+        "--organisation" if listing => Some((&mut given.organisation, [8, 16])),
+        "--wiring" => Some((&mut given.wiring, [4, 8])),
+        _ => None,
+    }
 }
 
 /// The number, if it is one of two.
@@ -91,8 +103,8 @@ fn run(call: &Call) -> Result<(), String> {
         ));
     }
     match call.listing {
-        true => run_list(&input, call.format, &output),
-        false => run_assemble(&input, &output),
+        true => run_list(&input, call.given.format(), &output),
+        false => run_assemble(&input, call.given.wiring, &output),
     }
 }
 
@@ -109,12 +121,13 @@ fn run_list(input: &Input, format: Format, output: &Output) -> Result<(), String
 }
 
 /// From text to words.
-fn run_assemble(input: &Input, output: &Output) -> Result<(), String> {
+fn run_assemble(input: &Input, wiring: Option<u32>, output: &Output) -> Result<(), String> {
     let name = &input.name;
-    let assembled = assemble(BufReader::new(&input.file)).map_err(|failure| match failure {
-        Failure::Unreadable(error) => format!("{name}: {error}"),
-        Failure::Wrong(faults) => faults.messages(name, "wrong lines").join("\n"),
-    })?;
+    let assembled =
+        assemble(BufReader::new(&input.file), wiring).map_err(|failure| match failure {
+            Failure::Unreadable(error) => format!("{name}: {error}"),
+            Failure::Wrong(faults) => faults.messages(name, "wrong lines").join("\n"),
+        })?;
     for warning in assembled.warnings.messages(name, "warnings") {
         say(&warning);
     }

@@ -1,6 +1,6 @@
 //! The pins of a word: one bit each, high = 1.
 
-/// The place of BA0; the bank is the three bits from here on.
+/// The place of BA0; the bank is the bits from here on, three or two by the wiring.
 pub const BANK_SHIFT: u32 = 14;
 pub const BA0: u32 = 1 << 14;
 pub const BA2: u32 = 1 << 16;

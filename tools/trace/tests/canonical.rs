@@ -117,6 +117,15 @@ fn fields_in_any_order() {
     }
 }
 
+/// A format with eight banks.
+fn format(bl: u32, organisation: u32) -> Format {
+    Format {
+        bl,
+        organisation,
+        ..Format::default()
+    }
+}
+
 #[test]
 fn other_formats() {
     let texts = [
@@ -136,7 +145,7 @@ fn other_formats() {
             "WRA bank 5 row 6"
         );
         let words = bytes(&[0x94006, word]);
-        assert_eq!(listing(&words, Format { bl, organisation }), text);
+        assert_eq!(listing(&words, format(bl, organisation)), text);
         assert_eq!(assembled(&text), words);
     }
 }
@@ -145,7 +154,7 @@ fn other_formats() {
 #[test]
 fn ignored_pins() {
     for (bl, organisation, word) in [(2, 16, 0xC2000), (2, 16, 0xC0800), (4, 8, 0xD1000)] {
-        let text = listing(&bytes(&[0x80000, word]), Format { bl, organisation });
+        let text = listing(&bytes(&[0x80000, word]), format(bl, organisation));
         let last = format!("{:<40}# 1, LAL", format!("WORD {word:#X}"));
         assert_eq!(text.lines().last(), Some(last.as_str()));
     }

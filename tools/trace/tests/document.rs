@@ -1,8 +1,8 @@
-//! The example of docs/TRACES.md, its text against its listing and against its program in C.
+//! The examples of docs/TRACES.md, their texts against their listings, and one against its program in C.
 
 mod common;
 
-use common::{assembled, listing};
+use common::{assembled, good_as, listing, wired};
 use std::path::Path;
 use std::process::Command;
 use trace::Format;
@@ -21,6 +21,15 @@ fn text_and_listing() {
     let trace = assembled(block("text"));
     assert_eq!(listing(&trace, Format::default()), block("listing"));
     assert_eq!(assembled(block("listing")), trace);
+}
+
+#[test]
+fn four_banks() {
+    let trace = good_as(block("four-banks"), Some(4)).trace.bytes();
+    assert_eq!(listing(&trace, wired(4)), block("listing-four"));
+    assert_eq!(listing(&trace, wired(8)), block("listing-eight"));
+    assert_eq!(assembled(block("listing-four")), trace);
+    assert_eq!(assembled(block("listing-eight")), trace);
 }
 
 #[test]

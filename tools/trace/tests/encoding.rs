@@ -2,7 +2,7 @@
 
 mod common;
 
-use common::{assembled, bytes, formats, listing};
+use common::{bytes, formats, good_as, listing};
 use reference::pair::{read, write, Operation, Request};
 use reference::random::Random;
 use reference::sheet::{Sheet, SHEET_E};
@@ -10,7 +10,7 @@ use trace::Format;
 
 const SEED: u64 = 0x7ACE_0002;
 
-/// An accepted sheet of the format.
+/// An accepted sheet of the format, but with eight banks.
 fn sheet(random: &Random, format: Format) -> Sheet {
     Sheet {
         cl: random.between(3, 5),
@@ -44,8 +44,20 @@ fn operation(random: &Random, format: Format) -> Operation {
     }
 }
 
-/// The two lines of an operation.
-fn lines(sheet: &Sheet, operation: Operation) -> (String, String) {
+/// What the pins of a request on eight banks stand for: on four, the bank's top bit is the row's.
+fn rewired(request: Request, format: Format) -> Request {
+    match format.wiring {
+        4 => Request {
+            bank: request.bank % 4,
+            row: request.row + 16_384 * (request.bank / 4),
+            ..request
+        },
+        _ => request,
+    }
+}
+
+/// The two lines of an operation, which the sheet has on eight banks.
+fn lines(sheet: &Sheet, operation: Operation, format: Format) -> (String, String) {
     match operation {
         Operation::Regular(a3) => (
             "RDA bank 0 row 0".to_string(),
@@ -61,7 +73,7 @@ fn lines(sheet: &Sheet, operation: Operation) -> (String, String) {
             format!("MRS extended {value}"),
         ),
         Operation::Refresh => ("WRA bank 0 row 0".to_string(), "REF".to_string()),
-        Operation::Access(request) => access(sheet, request),
+        Operation::Access(request) => access(sheet, rewired(request, format)),
     }
 }
 
@@ -87,10 +99,13 @@ fn operations() {
             let sheet = sheet(&random, format);
             let operation = operation(&random, format);
             let (first, second) = write(&sheet, &operation).expect("the fields are in range");
-            let (line, next) = lines(&sheet, operation);
+            let (line, next) = lines(&sheet, operation, format);
             let words = bytes(&[first, second]);
-            let heading = format!("bl {}\norganisation {}", format.bl, format.organisation);
-            assert_eq!(assembled(&format!("{heading}\n{line}\n{next}")), words);
+            let text = format!(
+                "bl {}\norganisation {}\n{line}\n{next}",
+                format.bl, format.organisation
+            );
+            assert_eq!(good_as(&text, Some(format.wiring)).trace.bytes(), words);
 
             let text = listing(&words, format);
             let tail = format!("{line:<40}# 0\n{next:<40}# 1\n");
@@ -117,7 +132,7 @@ fn pairs() {
                 continue;
             }
             named += 1;
-            let (line, next) = lines(&sheet, operation);
+            let (line, next) = lines(&sheet, operation, format);
             let mode = !matches!(operation, Operation::Access(_));
             assert!(mode || text.contains(&format!("{line:<40}#")), "{text}");
             assert!(text.contains(&format!("{next:<40}#")), "{text}{next}");

@@ -11,8 +11,8 @@ const LINES: &[(&str, &str)] = &[
     ("DESLx 5", "DESLx is no command"),
     ("RDA bank 8", "bank 8 is above 7"),
     ("WRA bank 9 row 1", "bank 9 is above 7"),
-    ("WRA row 16384", "row 16384 is above 16383"),
-    ("RDA row 0x4000", "row 0x4000 is above 16383"),
+    ("WRA row 32768", "row 32768 is above 16383"),
+    ("RDA row 0x8000", "row 0x8000 is above 16383"),
     (
         "RDA bank 99999999999999999999",
         "bank 99999999999999999999 is above 7",
@@ -78,6 +78,9 @@ const LINES: &[(&str, &str)] = &[
     ("bl 3", "bl 3 is none of 2, 4"),
     ("bl 4 organisation 8", "bl has no field organisation"),
     ("organisation 4", "organisation 4 is none of 8, 16"),
+    ("wiring", "wiring has no value"),
+    ("wiring 5", "wiring 5 is none of 4, 8"),
+    ("wiring 4 bl 2", "wiring has no field bl"),
 ];
 
 /// Texts whose last line is wrong after those before it.
@@ -100,7 +103,9 @@ const TEXTS: &[(&str, &str)] = &[
         "DESL\norganisation 16",
         "organisation stands after the first word",
     ),
+    ("REF\nwiring 4", "wiring stands after the first word"),
     ("bl 2\nbl 2", "bl stands twice"),
+    ("wiring 4\nwiring 4", "wiring stands twice"),
     (
         "organisation 8\norganisation 16",
         "organisation stands twice",
@@ -124,7 +129,7 @@ fn single_lines() {
         let later = format!("DESL x 3 # a comment\n\n  {line} # another\r\nNOP\n");
         match line.split(' ').next() {
             // Such a line is wrong for its place first.
-            Some("bl" | "organisation") => {}
+            Some("bl" | "organisation" | "wiring") => {}
             _ => assert_eq!(
                 faults(later.as_bytes()),
                 [format!("t:3: {what}"), "t:4: NOP is no command".to_string()]

@@ -63,7 +63,7 @@ fn a_listing() {
 fn a_line() {
     let line = |length: u64| "#".repeat(length as usize);
     for end in ["", "\n", "\nDESL\n"] {
-        assert!(assemble((line(LONGEST_LINE) + end).as_bytes()).is_ok());
+        assert!(assemble((line(LONGEST_LINE) + end).as_bytes(), None).is_ok());
         let wanted = "t:1: the line is longer than 1048576 bytes";
         assert_eq!(faults((line(LONGEST_LINE + 1) + end).as_bytes()), [wanted]);
     }

@@ -39,6 +39,33 @@ fn files() {
 fn formats() {
     let listed = run(&["list", "--bl", "2", "--organisation", "8"], &[]);
     assert_eq!(listed.stdout, b"# 0 words\nbl 2\norganisation 8\n");
+    let listed = run(&["list", "--wiring", "4", "--bl", "2"], &[]);
+    assert_eq!(listed.stdout, b"# 0 words\nbl 2\nwiring 4\n");
+}
+
+/// One word by either wiring; eight banks unless it is asked for.
+#[test]
+fn wirings() {
+    let word = 0x9_8E20u32.to_le_bytes();
+    let eight = ("WRA bank 6 row 3616", "");
+    let four = ("WRA bank 2 row 20000", "wiring 4\n");
+    for (options, (line, heading)) in [
+        (&[][..], eight),
+        (&["--wiring", "8"], eight),
+        (&["--wiring", "4"], four),
+    ] {
+        let listed = run(&[&["list"], options].concat(), &word);
+        let text = format!("# 1 words\n{heading}{line:<40}# 0\n");
+        assert_eq!(String::from_utf8(listed.stdout).unwrap(), text);
+        for text in [&text, line] {
+            let assembled = run(&[&["assemble"], options].concat(), text.as_bytes());
+            assert_eq!(assembled.stdout, word);
+        }
+    }
+    let wrong = run(&["assemble"], b"DESL\nWRA bank 2 row 20000");
+    let wanted = "standard input:2: row 20000 is above 16383; wiring 4 has that row\n";
+    assert_eq!(said(&wrong), (Some(1), wanted.to_string()));
+    assert!(wrong.stdout.is_empty());
 }
 
 #[test]
@@ -82,7 +109,7 @@ fn what_cannot_be_read() {
 
 #[test]
 fn wrong_arguments() {
-    let calls: [&[&str]; 8] = [
+    let calls: [&[&str]; 15] = [
         &[],
         &["print"],
         &["assemble", "a", "b", "c"],
@@ -91,10 +118,18 @@ fn wrong_arguments() {
         &["list", "--bl", "3"],
         &["list", "--organisation", "4"],
         &["list", "--cl", "4"],
+        &["list", "--bl", "2", "--bl", "2"],
+        &["list", "--wiring"],
+        &["list", "--wiring", "5"],
+        &["list", "--wiring", "4", "--wiring", "8"],
+        &["assemble", "--wiring"],
+        &["assemble", "--wiring", "four"],
+        &["assemble", "--wiring", "4", "-", "--wiring", "4"],
     ];
     for arguments in calls {
         let (status, what) = said(&run(arguments, b""));
         assert_eq!(status, Some(2), "{arguments:?}");
         assert!(what.starts_with("usage:"));
+        assert_eq!(what.matches("[--wiring 4|8]").count(), 2);
     }
 }

@@ -8,10 +8,26 @@ use std::path::{Path, PathBuf};
 use std::process::{Command, Output, Stdio};
 use trace::{assemble, list, Assembled, Failure, Format};
 
-/// Every BL with every organisation.
+/// Every BL with every organisation and wiring; the institute's own first.
 pub fn formats() -> Vec<Format> {
-    let with = |bl, organisation| Format { bl, organisation };
-    vec![with(4, 16), with(4, 8), with(2, 16), with(2, 8)]
+    let mut formats = Vec::new();
+    for wiring in [8, 4] {
+        let with = |(bl, organisation)| Format {
+            bl,
+            organisation,
+            wiring,
+        };
+        formats.extend([(4, 16), (4, 8), (2, 16), (2, 8)].map(with));
+    }
+    formats
+}
+
+/// The institute's own format, but for the wiring.
+pub fn wired(wiring: u32) -> Format {
+    Format {
+        wiring,
+        ..Format::default()
+    }
 }
 
 /// The little-endian bytes of words.
@@ -26,12 +42,17 @@ pub fn listing(bytes: &[u8], format: Format) -> String {
     String::from_utf8(text).expect("a listing is text")
 }
 
-/// What a good text gives.
-pub fn good(text: &str) -> Assembled {
-    match assemble(text.as_bytes()) {
+/// What a good text gives, with a wiring asked for or none.
+pub fn good_as(text: &str, wiring: Option<u32>) -> Assembled {
+    match assemble(text.as_bytes(), wiring) {
         Ok(assembled) => assembled,
         Err(failure) => panic!("{failure:?}\n{text}"),
     }
+}
+
+/// What a good text gives.
+pub fn good(text: &str) -> Assembled {
+    good_as(text, None)
 }
 
 /// The bytes of a good text.
@@ -41,7 +62,12 @@ pub fn assembled(text: &str) -> Vec<u8> {
 
 /// The messages on a text with wrong lines, as the program prints them of a file `t`.
 pub fn faults(text: impl BufRead) -> Vec<String> {
-    match assemble(text) {
+    faults_as(text, None)
+}
+
+/// Such messages, with a wiring asked for or none.
+pub fn faults_as(text: impl BufRead, wiring: Option<u32>) -> Vec<String> {
+    match assemble(text, wiring) {
         Err(Failure::Wrong(faults)) => faults.messages("t", "wrong lines"),
         other => panic!("no wrong line: {other:?}"),
     }
