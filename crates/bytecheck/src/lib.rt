@@ -26,6 +26,7 @@ fn judged_bytes(timing: Timing, bytes: &[u8]) -> Verdict
     ensures { λ r. ⌜ verdictOutcome r ≡ value (judge timing (wordsOf (now (bytes .entry)))) ⌝ }
 {
     let figures = timing.figures();
+    let four = figures.four;
     let mut place = Place::start();
     while (place.clock as usize) < bytes.len() / 4 {
         place = skimmed(timing, bytes, place);
@@ -38,7 +39,7 @@ fn judged_bytes(timing: Timing, bytes: &[u8]) -> Verdict
         if number != 0 {
             return Verdict::InBreach(Breach { clock, number });
         }
-        place = place.after(figures.four, word);
+        place = place.after(four, word);
     }
     Verdict::Accepted
 }

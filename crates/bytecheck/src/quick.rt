@@ -122,6 +122,7 @@ pub(crate) fn skimmed(timing: Timing, bytes: &[u8], from: Place) -> Place
     let mut first = from.first;
     let mut clock = from.clock;
     let figures = timing.figures();
+    let four = figures.four;
     let refs = stamps.refs;
     // Reads and writes change neither of these.
     let end = in_time(deadline(figures.refi, refs), (bytes.len() / 4) as u64);
@@ -139,7 +140,7 @@ pub(crate) fn skimmed(timing: Timing, bytes: &[u8], from: Place) -> Place
         if (clock as u64) < settled {
             break;
         }
-        let bank = bank(figures.four, first) as usize;
+        let bank = bank(four, first) as usize;
         let recent = Recent {
             bank: stamps.banks[bank],
             read: stamps.read,

@@ -5,7 +5,7 @@ use mathlib.Core.Bool.{Bool, true, _&&_}
 use mathlib.Core.List.{List, [], _∷_, _++_}
 use lib.Dec.{eqb}
 use Rattle.basics.specs.Outcome.{Outcome, value, refused}
-use Rattle.config.specs.Configuration.{institute, derived, timingOf}
+use Rattle.config.specs.Configuration.{institute, derived, timingOf, configOf}
 use Rattle.config.specs.declared.Config.{Config}
 use Rattle.writing.specs.Writing.{writePair}
 use Rattle.command.specs.declared.operation.Operation.the-variants.{Access}
@@ -39,20 +39,7 @@ verdictOn ps more = verdictOf (startUpPairs ++ ps) more
 
 -- sheet E with another period
 abbrev pub withPeriod : ℕ → Config
-withPeriod p =
-    record {
-      grade = institute .grade;
-      cl = institute .cl;
-      bl = institute .bl;
-      organisation = institute .organisation;
-      period = record { 0 = p };
-      rbd = institute .rbd;
-      rwd = institute .rwd;
-      wrd = institute .wrd;
-      rsc = institute .rsc;
-      refc = institute .refc;
-      wiring = institute .wiring;
-    }
+withPeriod p = configOf 37 4 4 16 p 2 3 1 7 18
 
 -- the number of a refusal, or 0
 abbrev pub refusal : {A : Type 0} → Outcome A → ℕ

@@ -57,6 +57,7 @@ fn closing(timing: Timing, controller: Controller) -> Ticked
     let words = pair_words(timing, opened, waiting[0]);
     let leaves = of_oldest(opened);
     let figures = timing.figures();
+    let four = figures.four;
     Ticked {
         answer: CallAnswer::Accepted,
         word: words.second,
@@ -64,7 +65,7 @@ fn closing(timing: Timing, controller: Controller) -> Ticked
             config,
             clock: clock + 1,
             opened: OpenPair::Nothing,
-            stamps: stamps.remembered(figures.four, clock, words.first, words.second),
+            stamps: stamps.remembered(four, clock, words.first, words.second),
             waiting: requests_left(leaves, waiting, count),
             count: count_left(leaves, count),
         },

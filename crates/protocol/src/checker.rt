@@ -71,13 +71,14 @@ impl Checker {
         let number = word_breach(timing, stamps, clock, first, word);
         if number == 0 {
             let figures = timing.figures();
+            let four = figures.four;
             return Stepped {
                 verdict: Verdict::Accepted,
                 checker: Checker {
                     config,
                     clock: clock + 1,
                     first: next_first(first, word),
-                    stamps: stamps.after(figures.four, clock, first, word),
+                    stamps: stamps.after(four, clock, first, word),
                     breach,
                 },
             };

@@ -116,7 +116,7 @@ sheets =
       never-unwired = never-unwired;
       unwired = unwired;
       only-unwired = only-unwired;
-      institute-has-eight = refl;
+      institute-is = refl;
       ten-have-eight = λ grade cl bl organisation period rbd rwd wrd rsc refc. refl;
       everywhere = everywhere;
     }

@@ -61,8 +61,8 @@ pub record Sheets : Type 0 where
   pub never-unwired : (c : Config) (t : Timing) → timingOf c ≡ value t → (c .wiring ≡ 4 → ⊥) → (c .wiring ≡ 8 → ⊥) → ⊥
   pub unwired : (c : Config) → Unwired c → timingOf c ≡ refused 34
   pub only-unwired : (c : Config) → timingOf c ≡ refused 34 → Unwired c
-  -- sheet E has eight banks, and so has every sheet of ten numbers
-  pub institute-has-eight : institute .wiring ≡ 8
+  -- a sheet of ten numbers, without its wiring, has eight banks, and sheet E is one
+  pub institute-is : institute ≡ configOf 37 4 4 16 5000 2 3 1 7 18
   pub ten-have-eight : (grade cl bl organisation period rbd rwd wrd rsc refc : ℕ)
       → configOf grade cl bl organisation period rbd rwd wrd rsc refc .wiring ≡ 8
   -- by whatever number a sheet is refused

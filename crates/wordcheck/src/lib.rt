@@ -22,6 +22,7 @@ fn judged(timing: Timing, words: &[u32]) -> Verdict
     ensures { λ r. ⌜ verdictOutcome r ≡ value (judge timing (now (words .entry))) ⌝ }
 {
     let figures = timing.figures();
+    let four = figures.four;
     let mut stamps = Timestamps::never();
     let mut first = DESL;
     let mut clock: u32 = 0;
@@ -31,7 +32,7 @@ fn judged(timing: Timing, words: &[u32]) -> Verdict
         if number != 0 {
             return Verdict::InBreach(Breach { clock, number });
         }
-        stamps = stamps.after(figures.four, clock, first, word);
+        stamps = stamps.after(four, clock, first, word);
         first = next_first(first, word);
         clock += 1;
     }

@@ -19,10 +19,10 @@ use Rattle.bytecheck.proofs.judged_bytes.Statement.{statement}
 use Rattle.bytecheck.proofs.judged_bytes.Tie as tie
 
 abbrev Inv-loop : tie.InvT-loop
-Inv-loop timing bytes figures place₀ place = judge timing (wordsOf bytes) ≡ runFrom timing (wordsOf bytes) place
+Inv-loop timing bytes four place₀ place = judge timing (wordsOf bytes) ≡ runFrom timing (wordsOf bytes) place
 
 abbrev μ-loop : tie.MeasureT-loop
-μ-loop timing bytes figures place₀ place = length bytes / 4 - place .clock
+μ-loop timing bytes four place₀ place = length bytes / 4 - place .clock
 
 -- where the skimming ends
 module _ (c : tie.After-skimmed Inv-loop μ-loop) where

@@ -12,11 +12,11 @@ use Rattle.wordcheck.proofs.judged.Statement.{statement}
 use Rattle.wordcheck.proofs.judged.Tie as tie
 
 abbrev Inv-loop : tie.InvT-loop
-Inv-loop timing words figures stamps₀ first₀ clock₀ stamps first clock =
+Inv-loop timing words four stamps₀ first₀ clock₀ stamps first clock =
     (clock ≤ length words) × (judge timing words ≡ run timing stamps clock first (drop clock words))
 
 abbrev μ-loop : tie.MeasureT-loop
-μ-loop timing words figures stamps₀ first₀ clock₀ stamps first clock = length words - clock
+μ-loop timing words four stamps₀ first₀ clock₀ stamps first clock = length words - clock
 
 figures-requires : tie.Need-figures-requires Inv-loop μ-loop
 figures-requires c κs = search needs

@@ -29,12 +29,12 @@ record Skimming (t : Timing) (bytes : List ℕ) (from at : Place) (end settled :
   calm : SettledFrom t (at .stamps) settled
 
 abbrev Inv-loop : tie.InvT-loop
-Inv-loop timing bytes stamps₀ first₀ clock₀ figures end settled stamps first clock =
+Inv-loop timing bytes stamps₀ first₀ clock₀ four end settled stamps first clock =
     Skimming timing bytes (record { clock = clock₀; first = first₀; stamps = stamps₀ })
     (record { clock = clock; first = first; stamps = stamps }) end settled
 
 abbrev μ-loop : tie.MeasureT-loop
-μ-loop timing bytes stamps₀ first₀ clock₀ figures end settled stamps first clock = end - clock
+μ-loop timing bytes stamps₀ first₀ clock₀ four end settled stamps first clock = end - clock
 
 -- where a turn starts
 module _ (l : tie.At-loop Inv-loop μ-loop) where

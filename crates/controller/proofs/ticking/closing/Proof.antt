@@ -22,8 +22,8 @@ of-oldest-requires c κs = search needs
 figures-requires : tie.Need-figures-requires
 figures-requires c κs = search needs
 
-add-t16 : tie.Need-add-t16
-add-t16 c = search needs
+add-t17 : tie.Need-add-t17
+add-t17 c = search needs
 
 remembered-requires : tie.Need-remembered-requires
 remembered-requires c κs = search needs
@@ -48,7 +48,7 @@ closing-spec =
     pair-words-requires
     of-oldest-requires
     figures-requires
-    add-t16
+    add-t17
     remembered-requires
     requests-left-requires
     count-left-requires

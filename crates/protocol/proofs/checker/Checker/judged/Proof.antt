@@ -10,8 +10,8 @@ word-breach-requires c κs = search needs
 figures-requires : tie.Need-figures-requires
 figures-requires c κs = search needs
 
-add-t14 : tie.Need-add-t14
-add-t14 c = search needs
+add-t15 : tie.Need-add-t15
+add-t15 c = search needs
 
 next-first-requires : tie.Need-next-first-requires
 next-first-requires c κs = search needs
@@ -30,4 +30,4 @@ returns-2 c = rw (← c .before .word-breach .ensures, ne-eqb (c .before .word-b
 pub judged-spec : {M : Type 1} → statement M
 judged-spec =
     tie.close
-    (tie.spec word-breach-requires figures-requires add-t14 next-first-requires after-requires returns returns-2)
+    (tie.spec word-breach-requires figures-requires add-t15 next-first-requires after-requires returns returns-2)
