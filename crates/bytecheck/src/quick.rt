@@ -149,7 +149,7 @@ pub(crate) fn skimmed(timing: Timing, bytes: &[u8], from: Place) -> Place
         if !clear(timing, recent, clock, first, word) {
             break;
         }
-        // `stamps.after(clock, first, word)` in place: it would copy the eight bank timestamps at each pair.
+        // `stamps.after(four, clock, first, word)` in place: it would copy the eight bank timestamps at each pair.
         let rda = high(first, FN);
         stamps.banks[bank] = clock;
         stamps.read = choose(rda, clock, stamps.read);

@@ -10,12 +10,13 @@ use trace::Format;
 
 const SEED: u64 = 0x7ACE_0002;
 
-/// An accepted sheet of the format, but with eight banks.
+/// An accepted sheet of the format.
 fn sheet(random: &Random, format: Format) -> Sheet {
     Sheet {
         cl: random.between(3, 5),
         bl: format.bl,
         org: format.organisation,
+        wiring: format.wiring,
         period: 6000,
         ..SHEET_E
     }
@@ -23,6 +24,11 @@ fn sheet(random: &Random, format: Format) -> Sheet {
 
 /// An operation whose fields are in their ranges.
 fn operation(random: &Random, format: Format) -> Operation {
+    let (banks, rows) = if format.wiring == 4 {
+        (4, 32_768)
+    } else {
+        (8, 16_384)
+    };
     let lane = || random.pick(if format.bl == 4 { &[1, 2, 4] } else { &[1, 2] });
     let columns = if format.organisation == 16 { 256 } else { 512 };
     match random.below(8) {
@@ -34,8 +40,8 @@ fn operation(random: &Random, format: Format) -> Operation {
             let upper = write && format.organisation == 16;
             Operation::Access(Request {
                 write,
-                bank: random.below(8),
-                row: random.below(16_384),
+                bank: random.below(banks),
+                row: random.below(rows),
                 column: random.below(columns),
                 lower: if write { lane() } else { 0 },
                 upper: if upper { lane() } else { 0 },
@@ -44,20 +50,8 @@ fn operation(random: &Random, format: Format) -> Operation {
     }
 }
 
-/// What the pins of a request on eight banks stand for: on four, the bank's top bit is the row's.
-fn rewired(request: Request, format: Format) -> Request {
-    match format.wiring {
-        4 => Request {
-            bank: request.bank % 4,
-            row: request.row + 16_384 * (request.bank / 4),
-            ..request
-        },
-        _ => request,
-    }
-}
-
-/// The two lines of an operation, which the sheet has on eight banks.
-fn lines(sheet: &Sheet, operation: Operation, format: Format) -> (String, String) {
+/// The two lines of an operation.
+fn lines(sheet: &Sheet, operation: Operation) -> (String, String) {
     match operation {
         Operation::Regular(a3) => (
             "RDA bank 0 row 0".to_string(),
@@ -73,7 +67,7 @@ fn lines(sheet: &Sheet, operation: Operation, format: Format) -> (String, String
             format!("MRS extended {value}"),
         ),
         Operation::Refresh => ("WRA bank 0 row 0".to_string(), "REF".to_string()),
-        Operation::Access(request) => access(sheet, rewired(request, format)),
+        Operation::Access(request) => access(sheet, request),
     }
 }
 
@@ -99,7 +93,7 @@ fn operations() {
             let sheet = sheet(&random, format);
             let operation = operation(&random, format);
             let (first, second) = write(&sheet, &operation).expect("the fields are in range");
-            let (line, next) = lines(&sheet, operation, format);
+            let (line, next) = lines(&sheet, operation);
             let words = bytes(&[first, second]);
             let text = format!(
                 "bl {}\norganisation {}\n{line}\n{next}",
@@ -132,7 +126,7 @@ fn pairs() {
                 continue;
             }
             named += 1;
-            let (line, next) = lines(&sheet, operation, format);
+            let (line, next) = lines(&sheet, operation);
             let mode = !matches!(operation, Operation::Access(_));
             assert!(mode || text.contains(&format!("{line:<40}#")), "{text}");
             assert!(text.contains(&format!("{next:<40}#")), "{text}{next}");
