@@ -35,21 +35,11 @@ pub(crate) fn config_at(bytes: &[u8], at: usize) -> Config {
     )
 }
 
-// A sheet of eleven numbers, the last its wiring.
+// A sheet of eleven numbers: the ten, and its wiring.
 pub(crate) fn wired_at(bytes: &[u8], at: usize) -> Config {
-    Config::wired(
-        word(bytes, at, 0),
-        word(bytes, at, 1),
-        word(bytes, at, 2),
-        word(bytes, at, 3),
-        word(bytes, at, 4),
-        word(bytes, at, 5),
-        word(bytes, at, 6),
-        word(bytes, at, 7),
-        word(bytes, at, 8),
-        word(bytes, at, 9),
-        word(bytes, at, 10),
-    )
+    let mut config = config_at(bytes, at);
+    config.wiring = word(bytes, at, 10);
+    config
 }
 
 pub(crate) fn request_at(bytes: &[u8], at: usize) -> Request {
