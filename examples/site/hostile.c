@@ -283,6 +283,8 @@ static void long_lengths(void) {
         expect(&bad, zeros, lengths[i][0], 33);
         bad.number[REFC] = 0;
         expect(&bad, zeros, lengths[i][0], 22);
+        bad.number[WIRING] = 5;
+        expect(&bad, zeros, lengths[i][0], 34);
     }
     munmap((void *)zeros, room);
 }

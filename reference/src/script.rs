@@ -144,13 +144,7 @@ impl Call {
                 let [first, second] = some(rest)?;
                 Call::ReadPair(first, second)
             }
-            7 => Call::WritePair(match one(rest)? {
-                0 => PairNumbers::Access(some(rest)?),
-                1 => PairNumbers::Regular(one(rest)?),
-                2 => PairNumbers::Extended(one(rest)?),
-                3 => PairNumbers::Refresh,
-                _ => return None,
-            }),
+            7 => Call::WritePair(pair(rest)?),
             8 => Call::Count(counted(rest)?),
             9 => Call::Waiting,
             10 => Call::Walk(counted(rest)?),
@@ -171,6 +165,18 @@ impl Call {
         };
         Some(call)
     }
+}
+
+/// Takes what a pair is written from, by its kind; none for another kind.
+fn pair(rest: &mut &[u32]) -> Option<PairNumbers> {
+    let numbers = match one(rest)? {
+        0 => PairNumbers::Access(some(rest)?),
+        1 => PairNumbers::Regular(one(rest)?),
+        2 => PairNumbers::Extended(one(rest)?),
+        3 => PairNumbers::Refresh,
+        _ => return None,
+    };
+    Some(numbers)
 }
 
 /// Takes so many words off the script.

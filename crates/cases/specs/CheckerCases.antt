@@ -5,7 +5,7 @@ use mathlib.Core.Bool.{Bool, true, _&&_}
 use mathlib.Core.List.{List, [], _∷_, _++_}
 use lib.Dec.{eqb}
 use Rattle.basics.specs.Outcome.{Outcome, value, refused}
-use Rattle.config.specs.Configuration.{institute, derived, timingOf, configOf}
+use Rattle.config.specs.Configuration.{institute, derived, timingOf}
 use Rattle.config.specs.declared.Config.{Config}
 use Rattle.writing.specs.Writing.{writePair}
 use Rattle.command.specs.declared.operation.Operation.the-variants.{Access}
@@ -37,9 +37,22 @@ verdictOf ps more = number (checkOf institute (words 0 ps more))
 abbrev pub verdictOn : List At → ℕ → ℕ
 verdictOn ps more = verdictOf (startUpPairs ++ ps) more
 
--- sheet E with another period
-abbrev pub withPeriod : ℕ → Config
-withPeriod p = configOf 37 4 4 16 p 2 3 1 7 18
+-- sheet E with another grade, period and wiring
+abbrev pub sheetWith : ℕ → ℕ → ℕ → Config
+sheetWith grade period wiring =
+    record {
+      grade = grade;
+      cl = institute .cl;
+      bl = institute .bl;
+      organisation = institute .organisation;
+      period = record { 0 = period };
+      rbd = institute .rbd;
+      rwd = institute .rwd;
+      wrd = institute .wrd;
+      rsc = institute .rsc;
+      refc = institute .refc;
+      wiring = wiring;
+    }
 
 -- the number of a refusal, or 0
 abbrev pub refusal : {A : Type 0} → Outcome A → ℕ
@@ -96,8 +109,8 @@ checkerCases =
     -- g (RULES 2.7): the LAL of a write of column 0 with four words in each lane
     ∷ row (lalOf (writePair institute (Access (record { write = true; bank = 0; row = 0; column = 0; lower = 4; upper = 4 })))) 0xD1000
     -- h (RULES 1.2): the least period of grade 37 at CL 4, and one picosecond less
-    ∷ row (refusal (timingOf (withPeriod 4500))) 0
-    ∷ row (refusal (timingOf (withPeriod 4499))) 21
+    ∷ row (refusal (timingOf (sheetWith 37 4500 8))) 0
+    ∷ row (refusal (timingOf (sheetWith 37 4499 8))) 21
     ∷ []
 
 -- in every row what is found is what is expected

@@ -6,6 +6,7 @@ ghost use mathlib.Core.Path.{_≡_};
 ghost use Prim.Native.Nat.{_≤_, _<_};
 ghost use Rattle.command.specs.Address.{bankOf, rowOf, addressFits, addressAt};
 
+// The bank on a first word.
 pub fn bank(four: bool, first: u32) -> u32
     ensures { λ r. ⌜ (r ≡ bankOf four first) × (r < 8) ⌝ }
 {
@@ -16,6 +17,7 @@ pub fn bank(four: bool, first: u32) -> u32
     }
 }
 
+// The row on a first word.
 pub fn row(four: bool, first: u32) -> u32
     ensures { λ r. ⌜ r ≡ rowOf four first ⌝ }
 {
@@ -26,7 +28,7 @@ pub fn row(four: bool, first: u32) -> u32
     }
 }
 
-// Both are in range.
+// A bank and a row are in range.
 pub fn address_fits(four: bool, bank: u32, row: u32) -> bool
     ensures { λ r. ⌜ r ≡ addressFits four bank row ⌝ }
 {
@@ -37,7 +39,7 @@ pub fn address_fits(four: bool, bank: u32, row: u32) -> bool
     }
 }
 
-// A first word's part with both, each on its pins, which keep its low bits.
+// A first word's part with a bank and a row, each on its pins, which keep its low bits.
 pub fn address(four: bool, bank: u32, row: u32) -> u32
     ensures { λ r. ⌜ (r ≡ addressAt four bank row) × (r ≤ 131071) ⌝ }
 {

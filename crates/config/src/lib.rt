@@ -37,7 +37,7 @@ pub struct Timing {
     cl: u32,
     bl: u32,
     organisation: u32,
-    // The wiring: of four banks, or of eight.
+    // Wired for four banks, and otherwise for eight.
     four: bool,
     rbd: u32,
     rwd: u32,

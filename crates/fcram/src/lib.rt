@@ -22,7 +22,7 @@ fn number(verdict: Verdict) -> u32
     }
 }
 
-// A trace of little-endian words, checked.
+// The verdict on a trace of little-endian words, as its number.
 pub(crate) fn checked(config: Config, trace: &[u8]) -> u32
     ensures { λ r. ⌜ r ≡ numberOf (checkBytesOf config (now (trace .entry))) ⌝ }
 {

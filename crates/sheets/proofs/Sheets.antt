@@ -22,7 +22,7 @@ use Rattle.protocol.specs.Steps.{refusing, stepBy, stepOf}
 use Rattle.protocol.specs.declared.checker.Checker.{Checker}
 use Rattle.walks.specs.Walk.{staying, examined}
 use Rattle.controller.specs.Steps.{offerBy, tickBy}
-use Rattle.sheets.specs.Sheets.{ShortRefresh, Unwired, RefusedBy, Sheets}
+use Rattle.sheets.specs.Sheets.{ShortRefresh, OtherWiring, RefusedBy, Sheets}
 
 -- a call behind a refused one is refused by the same number
 given-refused : {A B : Type 0} {n : ℕ} (x : Outcome A) (f : A → Outcome B) → x ≡ refused n → given x f ≡ refused n
@@ -87,14 +87,14 @@ only-short c e =
 neither : (c : Config) → (c .wiring ≡ 4 → ⊥) → (c .wiring ≡ 8 → ⊥) → wiringFits c ≡ false
 neither c four eight = rw (ne-eqb (c .wiring) 8 eight, ne-eqb (c .wiring) 4 four)
 
-never-unwired : (c : Config) (t : Timing) → timingOf c ≡ value t → (c .wiring ≡ 4 → ⊥) → (c .wiring ≡ 8 → ⊥) → ⊥
-never-unwired c t e four eight = false≢true (sym (neither c four eight) ∙ accepted c t e .0 .wiring)
+never-other-wiring : (c : Config) (t : Timing) → timingOf c ≡ value t → (c .wiring ≡ 4 → ⊥) → (c .wiring ≡ 8 → ⊥) → ⊥
+never-other-wiring c t e four eight = false≢true (sym (neither c four eight) ∙ accepted c t e .0 .wiring)
 
-unwired : (c : Config) → Unwired c → timingOf c ≡ refused 34
-unwired c u = rw (u .part, neither c (u .four) (u .eight))
+other-wiring : (c : Config) → OtherWiring c → timingOf c ≡ refused 34
+other-wiring c u = rw (u .part, neither c (u .four) (u .eight))
 
-only-unwired : (c : Config) → timingOf c ≡ refused 34 → Unwired c
-only-unwired c e =
+only-other-wiring : (c : Config) → timingOf c ≡ refused 34 → OtherWiring c
+only-other-wiring c e =
     let part = behind (partFits c) _ (λ q. omega arith) e in
     let later : Not 34 _ =
     require-not (periodFits c) 21 34 _ (λ q. omega arith)
@@ -113,9 +113,9 @@ sheets =
       never-accepted = never-accepted;
       short = short;
       only-short = only-short;
-      never-unwired = never-unwired;
-      unwired = unwired;
-      only-unwired = only-unwired;
+      never-other-wiring = never-other-wiring;
+      other-wiring = other-wiring;
+      only-other-wiring = only-other-wiring;
       institute-is = refl;
       ten-have-eight = λ grade cl bl organisation period rbd rwd wrd rsc refc. refl;
       everywhere = everywhere;

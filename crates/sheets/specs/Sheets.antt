@@ -31,7 +31,7 @@ pub record ShortRefresh (c : Config) : Type 0 where
   pub refc : c .refc .0 < 18
 
 -- no number before 34 applies, and the wiring is neither 4 nor 8 (RULES 6.34)
-pub record Unwired (c : Config) : Type 0 where
+pub record OtherWiring (c : Config) : Type 0 where
   pub part : partFits c ≡ true
   pub four : c .wiring ≡ 4 → ⊥
   pub eight : c .wiring ≡ 8 → ⊥
@@ -58,9 +58,9 @@ pub record Sheets : Type 0 where
   pub short : (c : Config) → ShortRefresh c → timingOf c ≡ refused 33
   pub only-short : (c : Config) → timingOf c ≡ refused 33 → ShortRefresh c
   -- no sheet with another wiring than 4 and 8 is accepted, and 34 is for those that 20 is not for (RULES 1.6)
-  pub never-unwired : (c : Config) (t : Timing) → timingOf c ≡ value t → (c .wiring ≡ 4 → ⊥) → (c .wiring ≡ 8 → ⊥) → ⊥
-  pub unwired : (c : Config) → Unwired c → timingOf c ≡ refused 34
-  pub only-unwired : (c : Config) → timingOf c ≡ refused 34 → Unwired c
+  pub never-other-wiring : (c : Config) (t : Timing) → timingOf c ≡ value t → (c .wiring ≡ 4 → ⊥) → (c .wiring ≡ 8 → ⊥) → ⊥
+  pub other-wiring : (c : Config) → OtherWiring c → timingOf c ≡ refused 34
+  pub only-other-wiring : (c : Config) → timingOf c ≡ refused 34 → OtherWiring c
   -- a sheet of ten numbers, without its wiring, has eight banks, and sheet E is one
   pub institute-is : institute ≡ configOf 37 4 4 16 5000 2 3 1 7 18
   pub ten-have-eight : (grade cl bl organisation period rbd rwd wrd rsc refc : ℕ)

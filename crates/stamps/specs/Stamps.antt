@@ -68,7 +68,7 @@ remembered four s k first second =
     cond (lal second) (withAccess s k (rda first) (bankOf four first))
     (cond (rda first) (withMode s k (high 14 second)) (withRefresh s k))
 
--- what is kept after any word
+-- what is kept after any word, with four banks (true) or eight
 abbrev pub nextStamps : Bool → Timestamps → ℕ → ℕ → ℕ → Timestamps
 nextStamps four s k first w = cond (opens first) (remembered four s k first w) s
 

@@ -19,7 +19,7 @@ pub struct Timestamps {
     // LAL of the last read, and of the last write.
     pub read: u32,
     pub write: u32,
-    // LAL of the last read or write of each bank.
+    // LAL of the last read or write of each bank; with four banks the first four places are used.
     pub banks: [u32; 8],
     // The last eight REF words, newest first.
     pub refs: [u32; 8],

@@ -164,7 +164,8 @@ fn random_words(random: &Random, packer: &mut Packer, sheet: &Sheet, scale: u32)
     chunked(packer, &calls);
 }
 
-/// Every setting of A0 to A13, BA0 to BA2 and FN on each word, the other word being a fitting one.
+/// Every setting of A0 to A13, BA0 to BA2 and FN on each word, the other word being a fitting one. With four banks an MRS
+/// is tried at CL 4 alone, and no REF: neither goes by the wiring.
 fn every_word(random: &Random, packer: &mut Packer) {
     let parts = pool::parts().into_iter().filter(|s| s.grade == 37);
     for sheet in parts.filter(|s| s.cl == 4 || s.wiring == 8) {
@@ -184,7 +185,7 @@ fn every_word(random: &Random, packer: &mut Packer) {
     }
 }
 
-/// Every MRS for each CL and BL, every LAL of a write for each BL and organisation, and some of reads.
+/// Every MRS, by 16; at CL 4 every LAL of a write too, and some of reads.
 fn every_closing(random: &Random, packer: &mut Packer, sheet: &Sheet) {
     let mut calls = vec![pool::config(random, sheet)];
     for pins in 0..1 << 17 {

@@ -86,23 +86,26 @@ impl<'a> Fields<'a> {
         })
     }
 
-    /// Takes the bank and the row.
-    pub fn bank_and_row(&mut self, format: Format) -> Outcome<(u32, u32)> {
-        let bank = self.wired("bank", format, Format::last_bank)?;
-        let row = self.wired("row", format, Format::last_row)?;
-        Ok((bank, row))
+    /// Whether a number that the line may have is at most the greatest.
+    fn fits(&self, name: &str, greatest: u32) -> bool {
+        let value = || self.value(name).and_then(number);
+        self.place(name).is_none() || value().is_some_and(|value| value <= u64::from(greatest))
     }
 
-    /// Takes a number whose greatest goes by the wiring; of one that only the other wiring has, that is said too.
-    fn wired(&mut self, name: &str, format: Format, last: fn(Format) -> u32) -> Outcome<u32> {
+    /// Takes the bank and the row; where the other wiring alone has both, that is said of the one that this has not.
+    pub fn bank_and_row(&mut self, format: Format) -> Outcome<(u32, u32)> {
         let other = format.rewired();
-        let value = self.value(name).and_then(number);
-        self.number(name, last(format)).map_err(|what| match value {
-            Some(value) if value <= u64::from(last(other)) => {
-                format!("{what}; wiring {} has that {name}", other.wiring)
+        let elsewhere = self.fits("bank", other.last_bank()) && self.fits("row", other.last_row());
+        let mut take = |name, greatest| match self.number(name, greatest) {
+            Err(what) if elsewhere => {
+                Err(format!("{what}; wiring {} has that {name}", other.wiring))
             }
-            _ => what,
-        })
+            taken => taken,
+        };
+        Ok((
+            take("bank", format.last_bank())?,
+            take("row", format.last_row())?,
+        ))
     }
 
     /// Takes a lane, if the line has it.

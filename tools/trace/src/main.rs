@@ -88,8 +88,9 @@ fn option<'a>(
 
 /// The number, if it is one of two.
 fn one_of(text: &OsStr, values: [u32; 2]) -> Option<u32> {
-    let value = text.to_str()?.parse().ok()?;
-    values.contains(&value).then_some(value)
+    values
+        .into_iter()
+        .find(|value| text == value.to_string().as_str())
 }
 
 /// Does what is asked for; a failure is what is to be said of it.

@@ -109,7 +109,7 @@ fn what_cannot_be_read() {
 
 #[test]
 fn wrong_arguments() {
-    let calls: [&[&str]; 15] = [
+    let calls: [&[&str]; 17] = [
         &[],
         &["print"],
         &["assemble", "a", "b", "c"],
@@ -124,6 +124,8 @@ fn wrong_arguments() {
         &["list", "--wiring", "4", "--wiring", "8"],
         &["assemble", "--wiring"],
         &["assemble", "--wiring", "four"],
+        &["assemble", "--wiring", "+4"],
+        &["list", "--bl", "04"],
         &["assemble", "--wiring", "4", "-", "--wiring", "4"],
     ];
     for arguments in calls {

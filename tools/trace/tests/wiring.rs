@@ -37,14 +37,17 @@ fn past_the_ranges() {
         ),
         (
             8,
-            "RDA bank 4 row 0x7FFF",
+            "RDA bank 3 row 0x7FFF",
             "row 0x7FFF is above 16383; wiring 4 has that row",
         ),
+        // The other wiring has no such bank, or no such row.
+        (8, "RDA bank 4 row 0x7FFF", "row 0x7FFF is above 16383"),
+        (4, "RDA row 16384 bank 4", "bank 4 is above 3"),
         (8, "RDA row 32768", "row 32768 is above 16383"),
         (4, "RDA bank 4", "bank 4 is above 3; wiring 8 has that bank"),
         (
             4,
-            "WRA row 16384 BANK 7",
+            "WRA row 16383 BANK 7",
             "bank 7 is above 3; wiring 8 has that bank",
         ),
         (4, "RDA bank 8", "bank 8 is above 3"),
