@@ -20,7 +20,7 @@ abbrev pub words : ℕ → List At → ℕ → List ℕ
 words k [] more = replicate more 0xC0000
 words k (p ∷ ps) more = replicate (p .clock - k) 0xC0000 ++ (p .first ∷ p .second ∷ words (p .clock + 2) ps more)
 
--- a read at clock k, with b on the pins of its bank, A0 to A13 low, column 0
+-- a read at clock k, with b on BA0 to BA2, A0 to A13 low, column 0
 abbrev pub readAt : ℕ → ℕ → At
 readAt k b = pair k (0xA0000 + b) 0xC0000
 
