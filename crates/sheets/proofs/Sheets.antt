@@ -57,6 +57,13 @@ fails : {A : Type 0} (b : Bool) {n : ℕ} (x : Outcome A) → Not n x → requir
 fails true x h e = absurd (h e)
 fails false x h e = refl
 
+-- and the other way round
+passes : {A : Type 0} {b : Bool} (m : ℕ) {n : ℕ} {x : Outcome A} → b ≡ true → x ≡ refused n → require b m x ≡ refused n
+passes m h e = rw h e
+
+refuses : {A : Type 0} {b : Bool} (n : ℕ) (x : Outcome A) → b ≡ false → require b n x ≡ refused n
+refuses n x h = rw h
+
 -- the test that fails
 below-18 : (c : Config) → c .cl ≡ 4 → c .refc .0 < 18 → refreshFits c ≡ false
 below-18 c is-4 short = rw (eq-eqb (c .cl) 4 is-4, lt-ltb (c .refc .0) 18 short)
@@ -65,7 +72,11 @@ never-accepted : (c : Config) (t : Timing) → c .cl ≡ 4 → c .refc .0 < 18 �
 never-accepted c t is-4 short e = false≢true (sym (below-18 c is-4 short) ∙ accepted c t e .0 .refresh)
 
 short : (c : Config) → ShortRefresh c → timingOf c ≡ refused 33
-short c s = rw (s .part, s .wiring, s .period, s .counts, below-18 c (s .cl) (s .refc))
+short c s =
+    passes 20 (s .part)
+    (passes 34 (s .wiring)
+    (passes 21 (s .period)
+    (passes 22 (s .counts) (refuses 33 (value (derived c)) (below-18 c (s .cl) (s .refc))))))
 
 only-short : (c : Config) → timingOf c ≡ refused 33 → ShortRefresh c
 only-short c e =
@@ -91,7 +102,7 @@ never-other-wiring : (c : Config) (t : Timing) → timingOf c ≡ value t → (c
 never-other-wiring c t e four eight = false≢true (sym (neither c four eight) ∙ accepted c t e .0 .wiring)
 
 other-wiring : (c : Config) → OtherWiring c → timingOf c ≡ refused 34
-other-wiring c u = rw (u .part, neither c (u .four) (u .eight))
+other-wiring c u = passes 20 (u .part) (refuses 34 _ (neither c (u .four) (u .eight)))
 
 only-other-wiring : (c : Config) → timingOf c ≡ refused 34 → OtherWiring c
 only-other-wiring c e =
