@@ -278,6 +278,9 @@ static void long_lengths(void) {
     };
     for (size_t i = 0; i < sizeof lengths / sizeof *lengths; i++) {
         expect(&sheet_e, zeros, lengths[i][0], (uint32_t)lengths[i][1]);
+        struct sheet four = sheet_e;
+        four.number[WIRING] = 4;
+        expect(&four, zeros, lengths[i][0], (uint32_t)lengths[i][1]);
         struct sheet bad = sheet_e;
         bad.number[REFC] = 17;
         expect(&bad, zeros, lengths[i][0], 33);
