@@ -8,6 +8,8 @@ use std::fmt;
 #[derive(Clone, Copy, Debug, PartialEq, Eq)]
 pub enum Command {
     Desl,
+    /// PD low and CS high.
+    PowerDown,
     Rda {
         bank: u32,
         row: u32,
@@ -39,6 +41,7 @@ impl Command {
         let lane = |lane: Option<&Lane>, pins| lane.map_or(0, |lane| lane.word(pins));
         match *self {
             Command::Desl => PD | CS,
+            Command::PowerDown => CS,
             Command::Rda { bank, row } => PD | FN | address(bank, row),
             Command::Wra { bank, row } => PD | address(bank, row),
             Command::Lal {
@@ -73,6 +76,7 @@ impl fmt::Display for Command {
     fn fmt(&self, out: &mut fmt::Formatter) -> fmt::Result {
         match self {
             Command::Desl => write!(out, "DESL"),
+            Command::PowerDown => write!(out, "PD"),
             Command::Rda { bank, row } => write!(out, "RDA bank {bank} row {row}"),
             Command::Wra { bank, row } => write!(out, "WRA bank {bank} row {row}"),
             Command::Lal {

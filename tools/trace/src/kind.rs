@@ -2,12 +2,14 @@
 
 use crate::command::Command;
 use crate::format::{Format, LOWER, UPPER};
-use crate::pins::{high, number, BA0, CS, FN};
+use crate::pins::{high, number, BA0, CS, FN, PD};
 
-/// What a word is by CS, FN and the pair that is open.
+/// What a word is by PD, CS, FN and the pair that is open.
 #[derive(Clone, Copy, Debug, PartialEq, Eq)]
 pub enum Kind {
     Desl,
+    /// PD low with no pair open, whatever the other pins.
+    PowerDown,
     Rda,
     Wra,
     /// LAL of a read.
@@ -18,17 +20,23 @@ pub enum Kind {
     Ref,
 }
 
+/// Whether a word opens a pair, if none is open before it.
+pub fn opens(word: u32) -> bool {
+    high(word, PD) && !high(word, CS)
+}
+
 /// The first word of the pair that is open after a word that stands so many times; `first` is that of the pair open before it.
 pub fn open_after(first: Option<u32>, word: u32, count: u64) -> Option<u32> {
-    // The first of the words closes an open pair; the others open and close pairs in turn if CS is low, and are DESL if it is high.
+    // The first of the words closes an open pair; the others open and close pairs in turn, or are no part of any.
     let others = count - u64::from(first.is_some());
-    (!high(word, CS) && others % 2 == 1).then_some(word)
+    (opens(word) && others % 2 == 1).then_some(word)
 }
 
 impl Kind {
     /// What a word is; `first` is the first word of the open pair.
     pub fn of(first: Option<u32>, word: u32) -> Kind {
         match (first.map(|first| high(first, FN)), high(word, CS)) {
+            (None, _) if !high(word, PD) => Kind::PowerDown,
             (None, true) => Kind::Desl,
             (None, false) if high(word, FN) => Kind::Rda,
             (None, false) => Kind::Wra,
@@ -39,10 +47,11 @@ impl Kind {
         }
     }
 
-    /// The maker's name.
+    /// The maker's name; of a word with PD low that of the pin.
     pub fn name(self) -> &'static str {
         match self {
             Kind::Desl => "DESL",
+            Kind::PowerDown => "PD",
             Kind::Rda => "RDA",
             Kind::Wra => "WRA",
             Kind::ReadLal | Kind::WriteLal => "LAL",
@@ -73,6 +82,7 @@ impl Kind {
         }
         Some(match self {
             Kind::Desl => Command::Desl,
+            Kind::PowerDown => Command::PowerDown,
             Kind::Rda => Command::Rda { bank, row },
             Kind::Wra => Command::Wra { bank, row },
             Kind::ReadLal | Kind::WriteLal => Command::Lal {
@@ -105,8 +115,9 @@ fn mode(word: u32) -> Option<Command> {
 mod tests {
     use super::*;
 
-    const KINDS: [Kind; 7] = [
+    const KINDS: [Kind; 8] = [
         Kind::Desl,
+        Kind::PowerDown,
         Kind::Rda,
         Kind::Wra,
         Kind::ReadLal,

@@ -61,11 +61,12 @@ fn own(tokens: &[&str], read: impl Fn(&mut Fields) -> Outcome<Line>) -> Outcome<
     Ok(line)
 }
 
-/// Reads one of the maker's commands other than MRS.
+/// Reads one of the maker's commands other than MRS, or a word with PD low.
 fn command(name: &str, rest: &[&str], format: Format) -> Outcome<Line> {
     let mut fields = Fields::new(rest)?;
     let command = match name.to_ascii_uppercase().as_str() {
         "DESL" => Command::Desl,
+        "PD" => Command::PowerDown,
         "REF" => Command::Ref,
         "RDA" => {
             let (bank, row) = fields.bank_and_row(format)?;

@@ -2,8 +2,8 @@
 
 use crate::command::Command;
 use crate::format::Format;
-use crate::kind::{open_after, Kind};
-use crate::pins::{high, CS};
+use crate::kind::{open_after, opens, Kind};
+use crate::pins::{high, PD};
 use std::io::{self, Write};
 
 /// Equal words that open and close pairs in turn are named one by one up to this number.
@@ -48,6 +48,14 @@ fn heading(words: usize, format: Format, out: &mut impl Write) -> io::Result<()>
     Ok(())
 }
 
+/// What a bare word is: its kind, and whether it closes a pair with PD low.
+fn note(kind: Kind, word: u32) -> String {
+    match kind == Kind::PowerDown || high(word, PD) {
+        true => kind.name().to_string(),
+        false => format!("{}, PD low", kind.name()),
+    }
+}
+
 /// The place in the trace.
 struct Lister<'a, W> {
     format: Format,
@@ -61,33 +69,28 @@ impl<W: Write> Lister<'_, W> {
     /// Lists a run of equal words. The one that closes a pair has a line of its own.
     fn run(&mut self, word: u32, mut count: u64) -> io::Result<()> {
         if self.first.is_some() {
-            self.single(word)?;
+            self.same(word, 1)?;
             count -= 1;
         }
         if count == 0 {
             return Ok(());
         }
-        if high(word, CS) {
-            return self.fold(word, count);
+        if !opens(word) {
+            return self.same(word, count);
         }
         if count > NAMED_IN_TURN {
             return self.in_turn(word, count);
         }
         for _ in 0..count {
-            self.single(word)?;
+            self.same(word, 1)?;
         }
         Ok(())
     }
 
-    /// Lists one word that opens or closes a pair.
-    fn single(&mut self, word: u32) -> io::Result<()> {
+    /// Lists one word, or many that are no part of any pair.
+    fn same(&mut self, word: u32, count: u64) -> io::Result<()> {
         let kind = Kind::of(self.first, word);
-        self.line(kind.read(self.format, word), 1, kind.name())
-    }
-
-    /// Lists words with CS high and no pair open.
-    fn fold(&mut self, word: u32, count: u64) -> io::Result<()> {
-        self.line(Kind::Desl.read(self.format, word), count, "DESL")
+        self.line(kind.read(self.format, word), count, &note(kind, word))
     }
 
     /// Lists many equal words that open and close pairs, from an opening one on.

@@ -7,7 +7,7 @@ use trace::Format;
 
 /// Lines of every command with what stands in their comments, and their words; sheet E's format.
 const LISTED: &str = "\
-# 42 words
+# 46 words
 RDA bank 0 row 0                        # 0
 MRS extended 0                          # 1
 DESL x 5                                # 2 to 6
@@ -37,18 +37,21 @@ WRA bank 0 row 0                        # 29
 REF                                     # 30
 DESL                                    # 31
 WORD 0xA0000 x 5                        # 32 to 36, RDA and MRS in turn
-WORD 0x0                                # 37, MRS
-WORD 0x0                                # 38, WRA
+WORD 0x0                                # 37, MRS, PD low
+WORD 0x180000                           # 38, WRA
 LAL column 0 lower reserved upper reserved # 39
 DESL                                    # 40
-WRA bank 0 row 66                       # 41
+PD x 3                                  # 41 to 43
+WORD 0x20001                            # 44, PD
+WRA bank 0 row 66                       # 45
 ";
 
-const WORDS: [u32; 42] = [
+const WORDS: [u32; 46] = [
     0xA0000, 0x84000, 0xC0000, 0xC0000, 0xC0000, 0xC0000, 0xC0000, 0xA0000, 0x80042, 0x80000,
     0x80000, 0xBFFFF, 0xC00FF, 0x84002, 0xD1803, 0x84002, 0xC2000, 0xA0000, 0x8407E, 0xA0000,
     0x80079, 0xC0000, 0xC0001, 0x80000, 0xC0100, 0xA0000, 0xD1000, 0x80000, 0x80000, 0x80000,
-    0x80000, 0xC0000, 0xA0000, 0xA0000, 0xA0000, 0xA0000, 0xA0000, 0, 0, 0xC0000, 0xC0000, 0x80042,
+    0x80000, 0xC0000, 0xA0000, 0xA0000, 0xA0000, 0xA0000, 0xA0000, 0, 0x180000, 0xC0000, 0xC0000,
+    0x40000, 0x40000, 0x40000, 0x20001, 0x80042,
 ];
 
 /// The same words, written as one would by hand.
@@ -82,9 +85,13 @@ WRA x 1
 WRA
 DESL
 RDA x 5
-WORD 0 x 2
+WORD 0
+WORD 0x180000
 DESL
 at 41
+pd X 2
+PD
+WORD 0x20001
 MRS regular cl 4 bl 4";
 
 #[test]

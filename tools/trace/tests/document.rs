@@ -33,6 +33,16 @@ fn four_banks() {
 }
 
 #[test]
+fn power_down() {
+    let trace = assembled(block("power-down"));
+    for wiring in [8, 4] {
+        let text = listing(&trace, wired(wiring)).replacen("wiring 4\n", "", 1);
+        assert_eq!(text, block("listing-power-down"));
+    }
+    assert_eq!(assembled(block("listing-power-down")), trace);
+}
+
+#[test]
 fn program_in_c() {
     let directory = Path::new(env!("CARGO_TARGET_TMPDIR"));
     let (source, program) = (directory.join("example.c"), directory.join("example"));

@@ -75,11 +75,20 @@ fn pins_in_every_place() {
     }
 }
 
-/// Runs of one word, at each length, after a closed and after an open pair.
+/// Runs of one word, at each length, after a closed pair, after an open one and asleep.
 #[test]
 fn runs_of_every_short_length() {
-    for word in [0, DESL, 0x80000, 0xA0000, 0x84000, 0xC0001, 0xFFFF_FFFF] {
-        for first in [0xC0000, 0xA0000, 0x80000] {
+    for word in [
+        0,
+        0x40000,
+        DESL,
+        0x80000,
+        0xA0000,
+        0x84000,
+        0xC0001,
+        0xFFFF_FFFF,
+    ] {
+        for first in [0xC0000, 0xA0000, 0x80000, 0x40000, 0] {
             for length in 0..20 {
                 let mut words = vec![first];
                 words.extend(vec![word; length]);
@@ -93,7 +102,7 @@ fn runs_of_every_short_length() {
 #[test]
 fn as_long_as_checked_and_longer() {
     for count in [16_777_216, 16_777_217] {
-        for word in [DESL, 0x80000, 0] {
+        for word in [DESL, 0x80000, 0x40000, 0] {
             round(&bytes(&vec![word; count]), formats()[0]);
         }
     }
