@@ -3,6 +3,7 @@
 use crate::ground::{self, Ground};
 use crate::judge::LONGEST;
 use crate::past::Past;
+use crate::phase::Phase;
 use crate::sheet::Sheet;
 
 /// A checker on a sheet, accepted or not.
@@ -34,7 +35,12 @@ impl<P: Past> Checker<P> {
 
     /// The grounds of 19; a recorded breach is none.
     pub fn grounds(&self) -> Vec<Ground> {
-        ground::common(&self.past, self.past.pair_open())
+        let phase = self.past.phase();
+        let mut grounds = ground::common(&self.past, matches!(phase, Phase::Open(_)));
+        if let Some(ground) = ground::of_sleep(phase, self.past.clock()) {
+            grounds.push(ground);
+        }
+        grounds
     }
 
     /// The refusals that come before those of the call: the sheet's, then 19.

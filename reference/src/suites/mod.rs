@@ -10,10 +10,14 @@ pub mod marks;
 pub mod near;
 pub mod pairs;
 pub mod pool;
+pub mod power_down;
 pub mod ranges;
 pub mod scripts;
 pub mod sheets;
+pub mod sleep;
+mod sleep_ending;
 pub mod states;
+pub mod tally;
 pub mod trace;
 
 use crate::coverage::Coverage;

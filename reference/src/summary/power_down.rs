@@ -1,0 +1,30 @@
+//! Rule 2 by the newest events: when PD may go low.
+
+use super::{Summary, MODE, READ, REFS, WRITE};
+use crate::past::Past;
+use crate::phase::Phase;
+use crate::sheet::Sheet;
+use crate::word::{high, CS, PD};
+
+impl Summary {
+    /// The grounds on which the word, if it goes low, may not do so.
+    pub fn barred(&self, sheet: &Sheet, word: u32) -> impl Iterator<Item = &'static str> {
+        let phase = self.phase();
+        let goes_low = !high(word, PD) && phase != Phase::PowerDown;
+        // First words are a clock before the closing words, whose clocks are kept.
+        let began_within = |event, spacing: u32| self.within(event, spacing - 1);
+        let grounds = [
+            ("pair open", matches!(phase, Phase::Open(_))),
+            ("wake-up word due", phase == Phase::WakeUp),
+            ("CS low", !high(word, CS)),
+            ("RC after a read", began_within(READ, sheet.rc())),
+            ("RC after a write", began_within(WRITE, sheet.rc())),
+            ("RSC", began_within(MODE, sheet.rsc)),
+            ("REFC", began_within(REFS, sheet.refc)),
+            ("read data", self.within(READ, sheet.cl + sheet.bl / 2)),
+            ("write data", self.within(WRITE, sheet.wl() + 2)),
+        ];
+        let standing = grounds.into_iter().filter(move |row| goes_low && row.1);
+        standing.map(|(name, _)| name)
+    }
+}
