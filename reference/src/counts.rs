@@ -2,7 +2,7 @@
 //! and no pair open counts as DESL.
 
 use crate::pair::{self, Kind};
-use crate::word::{high, CS, PD};
+use crate::word::opens;
 
 /// What the tally gives.
 #[derive(Clone, Copy, Debug, Default, PartialEq, Eq)]
@@ -48,8 +48,8 @@ pub fn counts(words: &[u32]) -> Result<Counts, u32> {
                 }
                 open = None;
             }
-            None if high(word, CS) || !high(word, PD) => counts.desls += 1,
-            None => open = Some(word),
+            None if opens(word) => open = Some(word),
+            None => counts.desls += 1,
         }
     }
     Ok(counts)

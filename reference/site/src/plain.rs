@@ -24,7 +24,7 @@ struct Checker<'a> {
     /// The pins of each lane in use, and what they hold when the lane is reserved.
     lanes: (u32, u32),
     reserved: u32,
-    /// The first word of an open pair; 0, which cannot open one unbreached, for none.
+    /// The first word of an open pair; 0, which cannot open one, for none.
     open: u32,
     /// The last clock that rule 3 allows.
     last: u32,
@@ -41,6 +41,11 @@ struct Checker<'a> {
     /// Rule 11 for a refresh, and for a mode.
     refresh_from: u32,
     mode_from: u32,
+    /// Rule 2 after the last read and the last write, and its spacings after them.
+    low_from: [u32; 2],
+    low_after: [u32; 2],
+    /// Behind the two wake-up words that follow the last word with PD low.
+    awake_from: u32,
 }
 
 impl<'a> Checker<'a> {
@@ -67,6 +72,9 @@ impl<'a> Checker<'a> {
             after_refresh: 0,
             refresh_from: 0,
             mode_from: 0,
+            low_from: [0; 2],
+            low_after: [sheet.cl + sheet.bl / 2, sheet.wl() + 2].map(|d| sheet.rc().max(1 + d)),
+            awake_from: 0,
         }
     }
 
@@ -74,13 +82,20 @@ impl<'a> Checker<'a> {
     #[inline]
     fn step(&mut self, k: u32, word: u32) -> u32 {
         if word >> 19 != 1 {
-            return if word >> 20 != 0 { 1 } else { 2 };
+            return if word >> 20 != 0 {
+                1
+            } else {
+                self.low(k, word)
+            };
         }
         if k > self.last {
             return 3;
         }
         if self.open == 0 {
             if word & CS == 0 {
+                if k < self.awake_from {
+                    return 13;
+                }
                 self.open = word;
             }
             return 0;
@@ -97,6 +112,28 @@ impl<'a> Checker<'a> {
             (true, false) => self.mode(k - 1, word),
             (false, false) => self.refresh(k - 1),
         }
+    }
+
+    /// A word with PD low: right behind another one the memory stays asleep, else PD goes low.
+    #[inline]
+    fn low(&mut self, k: u32, word: u32) -> u32 {
+        let asleep = k + 2 == self.awake_from;
+        if !asleep && !self.may_go_low(k, word) {
+            return 2;
+        }
+        if k > self.last {
+            return 3;
+        }
+        self.awake_from = k + 3;
+        0
+    }
+
+    /// Whether PD may go low at k.
+    fn may_go_low(&self, k: u32, word: u32) -> bool {
+        let [after_read, after_write] = self.low_from;
+        let after_pairs = self.after_mode.max(self.after_refresh);
+        let from = after_pairs.max(after_read).max(after_write);
+        self.open == 0 && word & CS != 0 && k >= from && k >= self.awake_from
     }
 
     /// A read or write at u.
@@ -135,6 +172,7 @@ impl<'a> Checker<'a> {
         self.write_from = self.write_from.max(near).max(write_turn);
         self.refresh_from = u + self.rc;
         self.mode_from = self.mode_from.max(u + 1 + data + s.bl / 2).max(u + self.rc);
+        self.low_from[write as usize] = u + self.low_after[write as usize];
         0
     }
 

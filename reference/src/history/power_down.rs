@@ -44,10 +44,10 @@ impl History {
 
     /// Rule 13: the first high word after a low one, and the one after it, have CS high.
     pub(super) fn wake_up_rules(&self, word: u32) -> [Row; 2] {
-        let command = high(word, PD) && !high(word, CS);
+        let opens = high(word, PD) && !high(word, CS);
         [
-            (13, "first wake-up word", command && self.low_before(1)),
-            (13, "second wake-up word", command && self.low_before(2)),
+            (13, "first wake-up word", opens && self.low_before(1)),
+            (13, "second wake-up word", opens && self.low_before(2)),
         ]
     }
 }

@@ -3,7 +3,7 @@
 use crate::coverage::Coverage;
 use crate::pair::{self, Kind};
 use crate::random::Random;
-use crate::word::{high, CS, DESL, FN, PD};
+use crate::word::{high, opens, CS, DESL, FN, PD};
 
 const LOW_CS_HIGH: &str = "tally: a low word with CS high, no pair open";
 const LOW_CS_LOW: &str = "tally: a low word with CS low, no pair open";
@@ -43,7 +43,7 @@ pub fn count(coverage: &mut Coverage, words: &[u32]) {
     let mut behind_low = false;
     for &word in words {
         let low = !high(word, PD);
-        let opens = open.is_none() && !low && !high(word, CS);
+        let opens = open.is_none() && opens(word);
         match open {
             Some(first) if low => coverage.meet(&closed_low(pair::kind(first, word))),
             None if low && high(word, CS) => coverage.meet(LOW_CS_HIGH),

@@ -182,8 +182,7 @@ impl Past for Summary {
         if word::stray_bit(word) {
             return Some(1);
         }
-        let high = word::high(word, word::PD);
-        if !high && self.barred(sheet, word).next().is_some() {
+        if self.goes_low(word) && self.barred(sheet, word).next().is_some() {
             return Some(2);
         }
         let limit = self.refresh_limit(sheet);
@@ -193,7 +192,7 @@ impl Past for Summary {
         match self.phase() {
             Phase::Open(first) => self.closing(sheet, first, word),
             Phase::Standby => None,
-            Phase::PowerDown | Phase::WakeUp => (high && !word::high(word, word::CS)).then_some(13),
+            Phase::PowerDown | Phase::WakeUp => word::opens(word).then_some(13),
         }
     }
 
@@ -204,7 +203,7 @@ impl Past for Summary {
                 Phase::Standby
             }
             _ if !word::high(word, word::PD) => Phase::PowerDown,
-            _ if !word::high(word, word::CS) => Phase::Open(word),
+            _ if word::opens(word) => Phase::Open(word),
             Phase::PowerDown => Phase::WakeUp,
             _ => Phase::Standby,
         };

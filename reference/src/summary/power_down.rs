@@ -7,10 +7,14 @@ use crate::sheet::Sheet;
 use crate::word::{high, CS, PD};
 
 impl Summary {
-    /// The grounds on which the word, if it goes low, may not do so.
+    /// Whether PD is low in the word and was not low in the one before.
+    pub fn goes_low(&self, word: u32) -> bool {
+        !high(word, PD) && self.phase() != Phase::PowerDown
+    }
+
+    /// The grounds on which a word that goes low may not do so.
     pub fn barred(&self, sheet: &Sheet, word: u32) -> impl Iterator<Item = &'static str> {
         let phase = self.phase();
-        let goes_low = !high(word, PD) && phase != Phase::PowerDown;
         // First words are a clock before the closing words, whose clocks are kept.
         let began_within = |event, spacing: u32| self.within(event, spacing - 1);
         let grounds = [
@@ -24,7 +28,7 @@ impl Summary {
             ("read data", self.within(READ, sheet.cl + sheet.bl / 2)),
             ("write data", self.within(WRITE, sheet.wl() + 2)),
         ];
-        let standing = grounds.into_iter().filter(move |row| goes_low && row.1);
+        let standing = grounds.into_iter().filter(|(_, stands)| *stands);
         standing.map(|(name, _)| name)
     }
 }

@@ -5,13 +5,11 @@ use super::forge::bare_checker;
 use super::phases::{some_first, ASLEEP, STANDBY, WAKE_UP_DUE};
 use crate::coverage::Coverage;
 use crate::past::Past;
-use crate::phase::Phase;
 use crate::random::Random;
 use crate::sheet::Sheet;
 use crate::state::{CheckerNumbers, EVENT};
 use crate::suites::pool;
 use crate::summary::{Summary, NAMES};
-use crate::word::{high, PD};
 
 /// Places of the events that are grounds, and their names.
 const MODE: usize = 2;
@@ -55,7 +53,7 @@ fn beside(call: &str, event: &str) -> String {
 /// Counts a word that goes low in a state that no call refuses.
 pub fn count(coverage: &mut Coverage, call: &str, sheet: &Sheet, past: &Summary, word: u32) {
     let clock = past.clock();
-    if high(word, PD) || past.phase() == Phase::PowerDown || clock == 0 {
+    if !past.goes_low(word) || clock == 0 {
         return;
     }
     let at = |clock| Summary::of(clock, past.first(), past.events());
