@@ -48,8 +48,8 @@ pub const EDGES: [&str; 18] = [
     "13 second wake-up word",
 ];
 
-/// Parts of rule 2 that are never broken alone: the data of a read or write lasts as long as RC or longer,
-/// as long only at CL 3.
+/// Parts of rule 2 that are never broken alone: the data of a read or write is over with RC or after it,
+/// and with it only at CL 3.
 const WITH_DATA: [&str; 2] = ["2 RC after a read", "2 RC after a write"];
 
 /// The parts that no waiting mends.

@@ -11,10 +11,10 @@ use crate::word::{high, CS, DESL, FN, PD};
 /// The pins that are ignored while PD stays low.
 pub const BELOW_PD: u32 = PD - 1;
 
-/// A sleep up to so many clocks may have another word at each of them.
+/// A shorter sleep may have another word at each of its clocks.
 const RESTLESS: u32 = 40;
 
-/// What a trace is about when it ends or breaks a rule there.
+/// Where about a sleep a trace breaks a rule.
 const CLOCK_0: &str = "at clock 0";
 const ASLEEP: &str = "asleep";
 const FIRST: &str = "in the first wake-up word";
@@ -85,7 +85,7 @@ impl Trace {
         }
     }
 
-    /// Words up to a clock, at times asleep for as long as the last one or the last two may be.
+    /// Words up to a clock: DESL, or a sleep with none to two wake-up words behind it.
     pub fn pass_until(&mut self, random: &Random, clock: u32, coverage: &mut Coverage) {
         let low = [low_word(random)];
         let fits = self.earliest(&low).is_some_and(|low| low + 2 < clock);
@@ -118,15 +118,23 @@ impl Trace {
 /// Counts what of power down a trace meets: the words kept, and what is broken at the next.
 pub fn count(coverage: &mut Coverage, kept: &History, words: &[u32], broken: &[Broken]) {
     count_kept(coverage, &words[..kept.clock as usize]);
-    let Some(lowest) = broken.first() else {
-        match kept.phase() {
-            Phase::PowerDown => coverage.meet("accepted, asleep at the end"),
-            Phase::WakeUp => coverage.meet("accepted, a wake-up word due at the end"),
-            _ => {}
+    match (broken.first(), kept.phase()) {
+        (Some(lowest), _) => {
+            let low = !high(words[kept.clock as usize], PD);
+            count_broken(coverage, kept, low, lowest.number);
+            let overdue = broken.iter().any(|b| b.number == 3);
+            if lowest.number == 2 && overdue && !kept.pair_open() {
+                coverage.meet("2 ahead of 3, no pair open");
+            }
         }
-        return;
-    };
-    let low = !high(words[kept.clock as usize], PD);
+        (None, Phase::PowerDown) => coverage.meet("accepted, asleep at the end"),
+        (None, Phase::WakeUp) => coverage.meet("accepted, a wake-up word due at the end"),
+        _ => {}
+    }
+}
+
+/// Counts a breach by where it stands: in a word that has PD low or not.
+fn count_broken(coverage: &mut Coverage, kept: &History, low: bool, number: u32) {
     let place = match (kept.phase(), low) {
         (Phase::PowerDown, true) => Some(ASLEEP),
         (Phase::PowerDown, false) => Some(FIRST),
@@ -134,16 +142,12 @@ pub fn count(coverage: &mut Coverage, kept: &History, words: &[u32], broken: &[B
         _ => (kept.clock == 0).then_some(CLOCK_0),
     };
     if let Some(place) = place {
-        coverage.meet(&format!("breach {} {place}", lowest.number));
+        coverage.meet(&format!("breach {number} {place}"));
     }
-    match (lowest.number, kept.phase(), low) {
+    match (number, kept.phase(), low) {
         (3, Phase::PowerDown, true) => coverage.meet("broken by one clock: 3 while PD stays low"),
         (3, _, true) => coverage.meet("broken by one clock: 3 at the clock where PD goes low"),
         _ => {}
-    }
-    let overdue = broken.iter().any(|b| b.number == 3);
-    if lowest.number == 2 && overdue && !kept.pair_open() {
-        coverage.meet("2 ahead of 3, no pair open");
     }
 }
 

@@ -88,13 +88,14 @@ pub fn refreshes(random: &Random, packer: &mut Packer, coverage: &mut Coverage) 
 /// States in which PD may go low, or may not, and a word with PD low.
 pub fn lows(random: &Random, packer: &mut Packer, coverage: &mut Coverage) {
     for numbers in lows::states(random) {
+        let sheet = state::checker(&numbers).sheet;
         let config = pool::config(random, &pool::sheet(random));
         let mut run = CheckerRun::put(coverage, config, vec![], &numbers);
         match random.once_in(2) {
             true => run.advance(walked(random, numbers[CLOCK], low_word(random))),
             false => run.step(low_word(random)),
         }
-        run.step(some_word(random, &pool::sheet(random), run.phase()));
+        run.step(some_word(random, &sheet, run.phase()));
         run.send(packer);
     }
 }

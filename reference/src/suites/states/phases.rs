@@ -15,7 +15,7 @@ pub const WAKE_UP_DUE: &str = "wake-up word due";
 pub const PHASES: [&str; 4] = [STANDBY, PAIR_OPEN, ASLEEP, WAKE_UP_DUE];
 
 /// The name of what the next word meets.
-pub fn phase_name(phase: Phase) -> &'static str {
+fn phase_name(phase: Phase) -> &'static str {
     match phase {
         Phase::Standby => STANDBY,
         Phase::Open(_) => PAIR_OPEN,
