@@ -1,11 +1,12 @@
 //! The ways in which a trace of the checker's suite ends, each near some edge of the rules.
 
+use super::damage::damage;
 use super::sleep_ending;
 use super::trace::{meet_edges, some_kind, Trace};
 use crate::coverage::Coverage;
 use crate::pair::Kind;
 use crate::random::Random;
-use crate::word::{a, high, BA0, BA1, BA2, CS, DESL, PD};
+use crate::word::{a, BA0, BA1, BA2, CS, PD};
 
 /// The ways are taken in turn. Four of them wait until a refresh is due and make long traces; each of the
 /// others comes three times.
@@ -37,7 +38,7 @@ fn end_soon(way: u32, trace: &mut Trace, random: &Random, coverage: &mut Coverag
         1 => one_clock_early(trace, random, coverage),
         2 => early_and_wrong(trace, random),
         3 => nine_refreshes(trace, random, coverage),
-        4 => damage(trace, random),
+        4 => damage(trace, random, coverage),
         5 => open_pair(trace, random),
         6 => older_pair_binds(trace, random, coverage),
         7 => access_soon_after(trace, random, coverage),
@@ -201,39 +202,6 @@ fn nine_refreshes(trace: &mut Trace, random: &Random, coverage: &mut Coverage) {
     };
     trace.add(&words);
     trace.idle_until(trace.clock() + random.below(3));
-}
-
-/// Whether a word is part of a pair, or PD has come up or gone down there.
-fn is_busy(words: &[u32], place: usize) -> bool {
-    let low = |i: usize| !high(words[i], PD);
-    let turned = place > 0 && low(place) != low(place - 1);
-    turned || !low(place) && words[place] != DESL
-}
-
-/// Bits turned over, words lost or doubled, anywhere.
-fn damage(trace: &mut Trace, random: &Random) {
-    for _ in 0..random.between(1, 3) {
-        if trace.words.is_empty() {
-            return;
-        }
-        let busy: Vec<usize> = (0..trace.words.len())
-            .filter(|&i| is_busy(&trace.words, i))
-            .collect();
-        let anywhere = random.below(trace.words.len() as u32) as usize;
-        let place = match busy.len() as u32 {
-            0 => anywhere,
-            _ if random.once_in(4) => anywhere,
-            n => busy[random.below(n) as usize],
-        };
-        match random.below(6) {
-            0 => {
-                trace.words.remove(place);
-            }
-            1 => trace.words.insert(place, trace.words[place]),
-            2 => trace.words[place] = random.bits(),
-            _ => trace.words[place] ^= 1 << random.below(if random.once_in(4) { 32 } else { 20 }),
-        }
-    }
 }
 
 /// A first word and no second.

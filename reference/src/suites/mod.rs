@@ -3,6 +3,7 @@
 pub mod ba2;
 pub mod checker;
 pub mod controller;
+mod damage;
 mod ending;
 pub mod load;
 pub mod long;

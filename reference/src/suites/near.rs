@@ -1,9 +1,8 @@
 //! Traces near the edges of the rules, and what they meet of them: for every suite that judges traces.
 
 use super::ending::end;
-use super::pool;
-use super::sleep;
 use super::trace::{part_name, refresh_limit, some_kind, Trace};
+use super::{damage, pool, sleep};
 use crate::coverage::Coverage;
 use crate::history::History;
 use crate::judge::first_broken;
@@ -107,6 +106,7 @@ pub fn promised() -> Vec<String> {
     promised.push("kept at its edge: 2 pair open".to_string());
     promised.push("an older pair of the bank binds".to_string());
     promised.extend(sleep::promised());
+    promised.extend(damage::promised());
     promised
 }
 
