@@ -3,7 +3,6 @@
 use crate::ground::{self, Ground};
 use crate::judge::LONGEST;
 use crate::past::Past;
-use crate::phase::Phase;
 use crate::sheet::Sheet;
 
 /// A checker on a sheet, accepted or not.
@@ -35,10 +34,10 @@ impl<P: Past> Checker<P> {
 
     /// The grounds of 19; a recorded breach is none.
     pub fn grounds(&self) -> Vec<Ground> {
-        let phase = self.past.phase();
-        let mut grounds = ground::common(&self.past, matches!(phase, Phase::Open(_)));
-        if let Some(ground) = ground::of_sleep(phase, self.past.clock()) {
-            grounds.push(ground);
+        let mut grounds = ground::common(&self.past);
+        let clock = self.past.clock();
+        if clock < 2 {
+            grounds.extend(ground::of_phase(self.past.phase(), clock));
         }
         grounds
     }

@@ -22,22 +22,19 @@ pub const TOO_MANY: Ground = "more than sixteen wait";
 /// The open pair is the oldest request's, and none waits.
 pub const NO_REQUEST: Ground = "open pair of no request";
 
-/// The grounds that a checker and a controller have in common: the clock, the events, an open pair.
-pub fn common<P: Past>(past: &P, open: bool) -> Vec<Ground> {
+/// The grounds that a checker and a controller have in common: the clock and the events.
+pub fn common<P: Past>(past: &P) -> Vec<Ground> {
     let mut grounds = past.late_events();
     if past.clock() > LONGEST {
         grounds.push(LATE_CLOCK);
     }
-    if open && past.clock() == 0 {
-        grounds.push(OPEN_AT_0);
-    }
     grounds
 }
 
-/// A ground that only a checker has: at its clock, what it meets remembers a low word that no clock can
-/// hold.
-pub fn of_sleep(phase: Phase, clock: u32) -> Option<Ground> {
+/// What a checker meets remembers one word before its clock, or two, that no clock can hold.
+pub fn of_phase(phase: Phase, clock: u32) -> Option<Ground> {
     match (phase, clock) {
+        (Phase::Open(_), 0) => Some(OPEN_AT_0),
         (Phase::PowerDown, 0) => Some(ASLEEP_AT_0),
         (Phase::WakeUp, 0) => Some(WAKE_UP_AT_0),
         (Phase::WakeUp, 1) => Some(WAKE_UP_AT_1),

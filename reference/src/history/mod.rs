@@ -89,8 +89,11 @@ type Row = (u32, &'static str, bool);
 
 /// Adds those of the rows that are broken.
 fn take<const N: usize>(found: &mut Vec<Broken>, rows: [Row; N]) {
-    let broken = rows.into_iter().filter(|row| row.2);
-    found.extend(broken.map(|(number, part, _)| Broken { number, part }));
+    for (number, part, broken) in rows {
+        if broken {
+            found.push(Broken { number, part });
+        }
+    }
 }
 
 /// A pair that its second word would close at u + 1, and the pairs before it.

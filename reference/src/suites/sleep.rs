@@ -12,7 +12,7 @@ use crate::word::{high, CS, DESL, FN, PD};
 pub const BELOW_PD: u32 = PD - 1;
 
 /// A shorter sleep may have another word at each of its clocks.
-const RESTLESS: u32 = 40;
+const RESTLESS: u32 = 12;
 
 /// Where about a sleep a trace breaks a rule.
 const CLOCK_0: &str = "at clock 0";
