@@ -8,8 +8,8 @@ use reference::judge::{judge, Verdict};
 use reference::pair::{self, Kind, Operation};
 use reference::past::Past;
 use reference::random::Random;
-use reference::sheet::Sheet;
-use reference::suites::{pool, sleep};
+use reference::sheet::{Sheet, SHEET_E};
+use reference::suites::{load, pool, sleep};
 use reference::summary::Summary;
 use reference::word::{DESL, PD};
 
@@ -85,6 +85,17 @@ fn history_and_summary_judge_alike() {
             words[place] ^= 1 << random.below(20);
         }
     }
+}
+
+#[test]
+fn loads_with_sleeps_keep_every_rule() {
+    let random = Random::new(5);
+    for sheet in pool::corners() {
+        let words = load::sleeping(&random, &sheet, 20_000);
+        assert_eq!(judge::<Summary>(&sheet, &words), Verdict::Accepted);
+    }
+    let words = load::sleeping(&random, &SHEET_E, 4_000_000);
+    assert_eq!(judge::<Summary>(&SHEET_E, &words), Verdict::Accepted);
 }
 
 #[test]

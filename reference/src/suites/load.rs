@@ -11,8 +11,8 @@ use crate::word::{CS, DESL};
 /// A word with PD low, as it is written.
 const LOW: u32 = CS;
 
-/// The longest sleep, the longest burst of reads and writes with what comes before the next sleep, and a
-/// refresh fit into so many clocks.
+/// REFC, the longest burst of reads and writes, and the longest sleep with its wake-up words fit into so
+/// many clocks.
 const ROUND: u32 = 500;
 
 /// A trace under way; every pair waits until the rules admit it.
@@ -148,7 +148,8 @@ pub fn mixed(random: &Random, sheet: &Sheet, length: usize) -> Vec<u32> {
 pub fn sleeping(random: &Random, sheet: &Sheet, length: usize) -> Vec<u32> {
     let mut load = Load::started(sheet, length);
     while load.words.len() < length {
-        if load.clock() + ROUND > load.due() {
+        // Of refreshes that came close together, the next ones are due so too.
+        while load.clock() + ROUND > load.due() {
             load.refresh();
         }
         for _ in 0..random.between(1, 16) {
