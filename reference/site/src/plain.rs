@@ -13,6 +13,11 @@ const MODE_LOW: u32 = 0x1_BF80;
 const LOWER: u32 = 0x1_2000;
 const UPPER: u32 = 0x1800;
 
+/// What a word meets where no pair is open: nothing, PD low in the word before, one wake-up word due.
+const NOTHING: u32 = 0;
+const ASLEEP: u32 = 1;
+const WAKE_UP: u32 = 2;
+
 /// The state before a word. A clock named `from` is the first that is allowed.
 struct Checker<'a> {
     sheet: &'a Sheet,
@@ -24,8 +29,9 @@ struct Checker<'a> {
     /// The pins of each lane in use, and what they hold when the lane is reserved.
     lanes: (u32, u32),
     reserved: u32,
-    /// The first word of an open pair; 0, which cannot open one, for none.
-    open: u32,
+    /// What the next word meets: the first word of an open pair, or one of the words above, none of which
+    /// can open one.
+    met: u32,
     /// The last clock that rule 3 allows.
     last: u32,
     first_extended: Option<u32>,
@@ -44,8 +50,6 @@ struct Checker<'a> {
     /// Rule 2 after the last read and the last write, and its spacings after them.
     low_from: [u32; 2],
     low_after: [u32; 2],
-    /// Behind the two wake-up words that follow the last word with PD low.
-    awake_from: u32,
 }
 
 impl<'a> Checker<'a> {
@@ -58,7 +62,7 @@ impl<'a> Checker<'a> {
             banks: sheet.wiring - 1,
             lanes: (LOWER, if sheet.org == 16 { UPPER } else { LOWER }),
             reserved: if sheet.bl == 4 { 0 } else { u32::MAX },
-            open: 0,
+            met: NOTHING,
             last: u32::MAX,
             first_extended: None,
             regular: false,
@@ -74,7 +78,6 @@ impl<'a> Checker<'a> {
             mode_from: 0,
             low_from: [0; 2],
             low_after: [sheet.cl + sheet.bl / 2, sheet.wl() + 2].map(|d| sheet.rc().max(1 + d)),
-            awake_from: 0,
         }
     }
 
@@ -91,16 +94,16 @@ impl<'a> Checker<'a> {
         if k > self.last {
             return 3;
         }
-        if self.open == 0 {
+        if self.met == NOTHING {
             if word & CS == 0 {
-                if k < self.awake_from {
-                    return 13;
-                }
-                self.open = word;
+                self.met = word;
             }
             return 0;
         }
-        let first = std::mem::take(&mut self.open);
+        let first = std::mem::replace(&mut self.met, NOTHING);
+        if first <= WAKE_UP {
+            return self.wake_up(first, word);
+        }
         match (first & FN != 0, word & CS != 0) {
             (true, true) => self.access(k - 1, first, false),
             (false, true) => {
@@ -114,17 +117,29 @@ impl<'a> Checker<'a> {
         }
     }
 
-    /// A word with PD low: right behind another one the memory stays asleep, else PD goes low.
+    /// A word with PD low.
     #[inline]
     fn low(&mut self, k: u32, word: u32) -> u32 {
-        let asleep = k + 2 == self.awake_from;
-        if !asleep && !self.may_go_low(k, word) {
-            return 2;
+        if self.met != ASLEEP {
+            if !self.may_go_low(k, word) {
+                return 2;
+            }
+            self.met = ASLEEP;
         }
         if k > self.last {
             return 3;
         }
-        self.awake_from = k + 3;
+        0
+    }
+
+    /// A word with PD high that meets a sleep or the second wake-up word.
+    fn wake_up(&mut self, met: u32, word: u32) -> u32 {
+        if word & CS == 0 {
+            return 13;
+        }
+        if met == ASLEEP {
+            self.met = WAKE_UP;
+        }
         0
     }
 
@@ -133,7 +148,7 @@ impl<'a> Checker<'a> {
         let [after_read, after_write] = self.low_from;
         let after_pairs = self.after_mode.max(self.after_refresh);
         let from = after_pairs.max(after_read).max(after_write);
-        self.open == 0 && word & CS != 0 && k >= from && k >= self.awake_from
+        self.met == NOTHING && word & CS != 0 && k >= from
     }
 
     /// A read or write at u.
