@@ -19,7 +19,7 @@ extern "C" {
  *
  * Answers 0 for accepted; 20 (grade, CL, BL or organisation), 21 (period), 22 (a count out of its range), 33 (CL 4 with a REFC below
  * 18), 29 (length is no multiple of four) or 24 (more than 16,777,216 words) for refused, the first that applies in this order;
- * otherwise the clock of the first breach times 64, plus its number from 1 to 12. A breach at clock 0 can only be 1 or 2, so no two
+ * otherwise the clock of the first breach times 64, plus its number from 1 to 13. A breach at clock 0 can only be 1 or 2, so no two
  * answers fall together.
  */
 uint32_t fcram_check(uint32_t grade, uint32_t cl, uint32_t bl, uint32_t organisation, uint32_t period, uint32_t rbd, uint32_t rwd,

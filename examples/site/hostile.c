@@ -26,6 +26,8 @@ static const uint32_t range[NUMBERS][2] = {
 };
 
 static const uint32_t DESL = 0xC0000;
+/* PD low and CS high. */
+static const uint32_t LOW = 0x40000;
 static const size_t LONGEST = 16777216;
 
 static unsigned long calls;
@@ -68,7 +70,7 @@ static bool is_verdict(uint32_t answer, size_t words) {
     uint32_t clock = answer / 64, rule = answer % 64;
     if (answer == 0)
         return true;
-    return clock < words && rule >= 1 && rule <= (clock == 0 ? 2 : 12);
+    return clock < words && rule >= 1 && rule <= (clock == 0 ? 2 : 13);
 }
 
 /* ---- Calls ---- */
@@ -266,7 +268,7 @@ static void short_lengths(void) {
     expect(&sheet_e, (const uint8_t *)UINTPTR_MAX, 0, 0);
 }
 
-/* Lengths that are too long, some of which have only zeros in their low 32 bits. The memory reads as zeros: PD is low. */
+/* Lengths that are too long, some of which have only zeros in their low 32 bits. The memory reads as zeros: PD goes low with CS low. */
 static void long_lengths(void) {
     const size_t most = 4 * LONGEST, four_gib = (size_t)1 << 32;
     const size_t room = 4 * four_gib + 8;
@@ -292,17 +294,40 @@ static void long_lengths(void) {
     munmap((void *)zeros, room);
 }
 
-/* Each bit of a DESL word turned over, at the first word and at a later one. */
+/* Each bit of a DESL word turned over, at the first word and at a later one, and once more right after a word with PD low. */
 static void single_bits(void) {
     for (int bit = 0; bit < 32; bit++) {
         uint8_t words[8];
-        uint32_t word = DESL ^ 1u << bit, rule = bit > 19 ? 1 : bit == 19 ? 2 : 0;
+        uint32_t word = DESL ^ 1u << bit, rule = bit > 19 ? 1 : 0;
         put(words, word);
         expect(&sheet_e, place(words, 4, 0), 4, rule);
         put(words, DESL);
         put(words + 4, word);
         expect(&sheet_e, place(words, 8, 0), 8, rule == 0 ? 0 : 64 + rule);
+        put(words, LOW);
+        expect(&sheet_e, place(words, 8, 0), 8, rule == 1 ? 64 + 1 : bit == 18 ? 64 + 13 : 0);
     }
+}
+
+/*
+ * Two words for each setting of PD and CS, the other pins low: PD may go low if CS is high, stays so whatever CS is, and comes up with CS
+ * high. Where the first opens a pair, CS low closes a refresh, and CS high a write whose lanes are reserved.
+ */
+static void low_words(void) {
+    static const uint32_t wanted[4][4] = {
+        /* second: PD and CS low, PD low, CS low, both high */
+        {2, 2, 2, 2},
+        {0, 0, 64 + 13, 0},
+        {64 + 2, 64 + 2, 0, 64 + 5},
+        {64 + 2, 0, 0, 0},
+    };
+    for (uint32_t first = 0; first < 4; first++)
+        for (uint32_t second = 0; second < 4; second++) {
+            uint8_t words[8];
+            put(words, first << 18);
+            put(words + 4, second << 18);
+            expect(&sheet_e, place(words, 8, 0), 8, wanted[first][second]);
+        }
 }
 
 /* Two reads after a start-up that differ in BA2 alone: RC is 5, and with four banks they are of one bank. */
@@ -335,12 +360,13 @@ static uint32_t random_word(void) {
     return (uint32_t)(state >> 16);
 }
 
-/* A word of noise: over all bits; over the pins, PD high; or mostly DESL. */
+/* A word of noise: over all bits; over the pins, PD high; mostly DESL; or over the pins, mostly PD low. */
 static uint32_t noise(uint32_t sort) {
     switch (sort) {
     case 0: return random_word();
     case 1: return 0x80000 | (random_word() & 0xFFFFF);
-    default: return random_word() % 8 == 0 ? 0x80000 | (random_word() & 0xFFFFF) : DESL;
+    case 2: return random_word() % 8 == 0 ? 0x80000 | (random_word() & 0xFFFFF) : DESL;
+    default: return random_word() % 8 == 0 ? DESL : LOW | (random_word() & 0x3FFFF);
     }
 }
 
@@ -353,7 +379,7 @@ static void noisy_traces(void) {
         sheet.number[ORGANISATION] = random_word() % 2 ? 8 : 16;
         sheet.number[WIRING] = random_word() % 2 ? 8 : 4;
         size_t words = random_word() % 65;
-        uint32_t sort = random_word() % 3;
+        uint32_t sort = random_word() % 4;
         for (size_t i = 0; i < words; i++)
             put(bytes + 4 * i, noise(sort));
         call(&sheet, place(bytes, 4 * words, random_word() % 8), 4 * words);
@@ -369,6 +395,7 @@ int main(void) {
     short_lengths();
     long_lengths();
     single_bits();
+    low_words();
     two_reads();
     noisy_traces();
     printf("hostile: %lu calls answered as the paper has it\n", calls);

@@ -50,7 +50,7 @@ static const char usage[] =
 
 static const char *const rules[] = {
     [1] = "a bit above 19 is set",
-    [2] = "PD is low",
+    [2] = "PD goes low where it may not",
     [3] = "a refresh is overdue",
     [4] = "MRS fields are wrong",
     [5] = "a lane of a write is reserved",
@@ -61,6 +61,7 @@ static const char *const rules[] = {
     [10] = "too soon after a refresh",
     [11] = "a mode or refresh too soon after a read or write",
     [12] = "nine refreshes too close together",
+    [13] = "CS is low in a wake-up word",
 };
 
 /* What a refusal means; NULL for a number that is none. */
@@ -148,7 +149,7 @@ static int verdict(uint32_t answer) {
         printf("refused %u: %s\n", answer, refusal(answer));
         return 1;
     }
-    if (rule >= 1 && rule <= 12) {
+    if (rule >= 1 && rule < sizeof rules / sizeof *rules) {
         printf("breach at clock %u: rule %u, %s\n", clock, rule, rules[rule]);
         return 1;
     }

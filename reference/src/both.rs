@@ -2,6 +2,7 @@
 
 use crate::history::History;
 use crate::past::Past;
+use crate::phase::Phase;
 use crate::sheet::Sheet;
 use crate::summary::Summary;
 
@@ -54,8 +55,8 @@ impl Past for Both {
         self.same(|p| p.clock(), |q| q.clock())
     }
 
-    fn pair_open(&self) -> bool {
-        self.same(|p| p.pair_open(), |q| q.pair_open())
+    fn phase(&self) -> Phase {
+        self.same(|p| p.phase(), |q| q.phase())
     }
 
     fn lowest(&self, sheet: &Sheet, word: u32) -> Option<u32> {

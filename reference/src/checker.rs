@@ -34,7 +34,12 @@ impl<P: Past> Checker<P> {
 
     /// The grounds of 19; a recorded breach is none.
     pub fn grounds(&self) -> Vec<Ground> {
-        ground::common(&self.past, self.past.pair_open())
+        let mut grounds = ground::common(&self.past);
+        let clock = self.past.clock();
+        if clock < 2 {
+            grounds.extend(ground::of_phase(self.past.phase(), clock));
+        }
+        grounds
     }
 
     /// The refusals that come before those of the call: the sheet's, then 19.

@@ -1,6 +1,6 @@
 //! The controller, deciding by the published rules on the words it has given so far.
 
-use crate::ground::{self, Ground, NO_REQUEST};
+use crate::ground::{self, Ground, NO_REQUEST, OPEN_AT_0};
 use crate::judge::LONGEST;
 use crate::pair::{self, Operation, Request};
 use crate::past::Past;
@@ -41,7 +41,10 @@ impl<P: Past> Controller<P> {
 
     /// The grounds of 19.
     pub fn grounds(&self) -> Vec<Ground> {
-        let mut grounds = ground::common(&self.past, self.opened.is_some());
+        let mut grounds = ground::common(&self.past);
+        if self.opened.is_some() && self.past.clock() == 0 {
+            grounds.push(OPEN_AT_0);
+        }
         grounds.extend(self.queue.grounds(&self.sheet));
         if self.opened == Some(Opened::Oldest) && self.queue.count == 0 {
             grounds.push(NO_REQUEST);

@@ -1,7 +1,8 @@
-//! The tally: closed pairs of the four kinds and DESL words, counted without judging.
+//! The tally: closed pairs of the four kinds and DESL words, counted without judging. A word with PD low
+//! and no pair open counts as DESL.
 
 use crate::pair::{self, Kind};
-use crate::word::{high, CS};
+use crate::word::opens;
 
 /// What the tally gives.
 #[derive(Clone, Copy, Debug, Default, PartialEq, Eq)]
@@ -47,8 +48,8 @@ pub fn counts(words: &[u32]) -> Result<Counts, u32> {
                 }
                 open = None;
             }
-            None if high(word, CS) => counts.desls += 1,
-            None => open = Some(word),
+            None if opens(word) => open = Some(word),
+            None => counts.desls += 1,
         }
     }
     Ok(counts)

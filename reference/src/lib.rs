@@ -15,6 +15,7 @@ pub mod judge;
 pub mod lines;
 pub mod pair;
 pub mod past;
+pub mod phase;
 pub mod program;
 pub mod promises;
 pub mod queue;

@@ -25,6 +25,11 @@ pub fn high(word: u32, pin: u32) -> bool {
     word & pin != 0
 }
 
+/// Whether the word opens a pair if none is open: PD high and CS low.
+pub fn opens(word: u32) -> bool {
+    word & (PD | CS) == PD
+}
+
 /// Whether a bit above PD is set, which is no pin at all.
 pub fn stray_bit(word: u32) -> bool {
     word >> 20 != 0

@@ -8,10 +8,10 @@ use reference::judge::{judge, Verdict};
 use reference::pair::{self, Kind, Operation};
 use reference::past::Past;
 use reference::random::Random;
-use reference::sheet::Sheet;
-use reference::suites::pool;
+use reference::sheet::{Sheet, SHEET_E};
+use reference::suites::{load, pool, sleep};
 use reference::summary::Summary;
-use reference::word::DESL;
+use reference::word::{DESL, PD};
 
 const KINDS: [Kind; 5] = [
     Kind::Read,
@@ -36,7 +36,7 @@ fn pairs_written_are_read_back_whatever_the_ignored_pins() {
     }
 }
 
-/// A trace of pairs put where the plain judge allows them, most of them at once.
+/// A trace of pairs put where the plain judge allows them, most of them at once, and sleeps between some.
 fn busy_trace(random: &Random, sheet: &Sheet, pairs: u32) -> Vec<u32> {
     let mut past = History::fresh();
     let mut words = Vec::new();
@@ -45,16 +45,31 @@ fn busy_trace(random: &Random, sheet: &Sheet, pairs: u32) -> Vec<u32> {
         let kind = *start_up.get(n as usize).unwrap_or(&random.pick(&KINDS));
         let operation = pool::operation(random, sheet, kind, random.below(8));
         let pair = pool::noisy(random, sheet, kind, &operation);
-        while !past.admits(sheet, pair) && past.lowest(sheet, DESL).is_none() {
-            past.push(sheet, DESL);
-            words.push(DESL);
+        if random.once_in(4) {
+            put(&mut past, &mut words, sheet, &[sleep::low_word(random)]);
+            let stays = random.below(5);
+            (0..stays).for_each(|_| push(&mut past, &mut words, sheet, random.bits() & (PD - 1)));
         }
-        for word in [pair.0, pair.1] {
-            past.push(sheet, word);
-            words.push(word);
-        }
+        put(&mut past, &mut words, sheet, &[pair.0, pair.1]);
     }
     words
+}
+
+fn push(past: &mut History, words: &mut Vec<u32>, sheet: &Sheet, word: u32) {
+    past.push(sheet, word);
+    words.push(word);
+}
+
+/// Puts words, behind DESL until they break nothing or waiting does.
+fn put(past: &mut History, words: &mut Vec<u32>, sheet: &Sheet, put: &[u32]) {
+    let fits = |past: &History| match put {
+        [first, second] => past.admits(sheet, (*first, *second)),
+        _ => past.lowest(sheet, put[0]).is_none(),
+    };
+    while !fits(past) && past.lowest(sheet, DESL).is_none() {
+        push(past, words, sheet, DESL);
+    }
+    put.iter().for_each(|&word| push(past, words, sheet, word));
 }
 
 #[test]
@@ -70,6 +85,17 @@ fn history_and_summary_judge_alike() {
             words[place] ^= 1 << random.below(20);
         }
     }
+}
+
+#[test]
+fn loads_with_sleeps_keep_every_rule() {
+    let random = Random::new(5);
+    for sheet in pool::corners() {
+        let words = load::sleeping(&random, &sheet, 20_000);
+        assert_eq!(judge::<Summary>(&sheet, &words), Verdict::Accepted);
+    }
+    let words = load::sleeping(&random, &SHEET_E, 4_000_000);
+    assert_eq!(judge::<Summary>(&SHEET_E, &words), Verdict::Accepted);
 }
 
 #[test]

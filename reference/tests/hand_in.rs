@@ -33,9 +33,15 @@ fn words_are_little_endian() {
 #[test]
 fn clock_times_64_plus_the_breach() {
     let mut words = vec![DESL; 100];
-    words[77] = DESL & !PD;
+    words[77] = 0;
     assert_eq!(number(&SHEET_E, &bytes(&words)), 77 * 64 + 2);
     assert_eq!(line(&bytes(&words)), "breach 77 2\n");
+    // PD may go low at 77, and two wake-up words follow.
+    words[77] = DESL & !PD;
+    assert_eq!(line(&bytes(&words)), "accepted 100\n");
+    words[79] = PD;
+    assert_eq!(number(&SHEET_E, &bytes(&words)), 79 * 64 + 13);
+    assert_eq!(line(&bytes(&words)), "breach 79 13\n");
     let read = [DESL, PD | FN, DESL];
     assert_eq!(number(&SHEET_E, &bytes(&read)), 2 * 64 + 6);
     assert_eq!(number(&SHEET_E, &bytes(&read[..2])), 0);

@@ -7,10 +7,10 @@ use reference::coverage::Coverage;
 use reference::judge::LONGEST;
 use reference::random::Random;
 use reference::sheet::{SHEET_E, SHEET_E_OF_FOUR};
-use reference::suites::{ba2, load, near, pool, sheets};
+use reference::suites::{ba2, load, near, pool, power_down, sheets, tally};
 use reference::summary::Summary;
 use reference::wiring::{self, WIRINGS};
-use reference::word::{DESL, PD};
+use reference::word::DESL;
 
 /// The lengths on either side of each limit, with their names.
 const LENGTHS: [(usize, &str); 4] = [
@@ -19,6 +19,9 @@ const LENGTHS: [(usize, &str); 4] = [
     (LONGEST as usize, "16,777,216 words"),
     (LONGEST as usize + 1, "16,777,217 words"),
 ];
+
+/// A word that may not go low, CS being low.
+const LOW_CS: u32 = 0;
 
 /// The calls that take a sheet.
 const CALLS: [&str; 3] = ["check", "walk", "walk again"];
@@ -35,7 +38,7 @@ fn promised_of(call: &str, wiring: u32) -> Vec<String> {
     promised.push(name("short", "no fault"));
     match call {
         "walk again" => promised.push(name("short", "refused 23")),
-        _ => promised.extend((1..=12).map(|n| name("short", &format!("breach {n}")))),
+        _ => promised.extend((1..=13).map(|n| name("short", &format!("breach {n}")))),
     }
     let long = match (call, wiring) {
         ("check", _) | (_, 8) => &LENGTHS[..],
@@ -79,7 +82,13 @@ pub fn promised() -> Vec<String> {
     promised.extend(early.map(name));
     for sheet in pool::parts() {
         promised.extend(ba2::promised(sheet.bl, sheet.wiring));
+        promised.extend(power_down::promised(sheet.wiring));
     }
+    promised.extend(tally::promised());
+    let asleep = LENGTHS[..3].iter().map(|(_, length)| with_sleeps(length));
+    let on =
+        |length: String| WIRINGS.map(|w| format!("check, {length}, {}: no fault", wiring::name(w)));
+    promised.extend(asleep.flat_map(on));
     let counted = ["short: no fault", "65,536 words: no fault"];
     promised.extend(counted.map(|what| format!("count, {what}")));
     let refused = LENGTHS[1..].iter();
@@ -100,13 +109,18 @@ pub fn short(run: &mut Run, random: &Random) {
         run.all::<Both>(&sheet, &near::random_words(random), "short");
         run.all::<Both>(&sheet, &[], "short");
     }
-    let mut of_ba2 = Coverage::default();
+    let mut of_cases = Coverage::default();
     for sheet in pool::parts() {
-        ba2::each(random, &sheet, &mut of_ba2, &mut |_, words| {
-            run.all::<Both>(&sheet, words, "short")
-        });
+        let mut judged = |_: &mut Coverage, words: &[u32]| run.all::<Both>(&sheet, words, "short");
+        ba2::each(random, &sheet, &mut of_cases, &mut judged);
+        power_down::each(random, &sheet, &mut of_cases, &mut judged);
     }
-    run.coverage.add(of_ba2);
+    run.coverage.add(of_cases);
+    for _ in 0..200 {
+        let words = tally::some_words(random);
+        tally::count(&mut run.coverage, &words);
+        run.all::<Both>(&pool::sheet(random), &words, "short");
+    }
     sheets::each_fault(random, 1, &mut |sheet| {
         let words = random.pick(&[&[][..], &[DESL], &[0]]);
         run.all::<Both>(&sheet, words, "short");
@@ -124,15 +138,34 @@ pub fn long(run: &mut Run, random: &Random) {
         let last = words[length - 1];
         on_both(run, &words[..length], name);
         refused_sheets(run, &words[..length], name);
-        words[length - 1] = last & !PD;
+        words[length - 1] = LOW_CS;
         on_both(run, &words[..length], name);
         refused_sheets(run, &words[..length], name);
         words[length - 1] = last;
         let early = words[100];
-        words[100] = early & !PD;
+        words[100] = LOW_CS;
         on_both(run, &words[..length], name);
         words[100] = early;
     }
+}
+
+/// A trace with sleeps at the limits; the longest is checked alone.
+pub fn sleeping(run: &mut Run, random: &Random) {
+    let words = load::sleeping(random, &SHEET_E_OF_FOUR, LONGEST as usize);
+    for (length, name) in &LENGTHS[..3] {
+        let (words, name) = (&words[..*length], with_sleeps(name));
+        for sheet in [SHEET_E, SHEET_E_OF_FOUR] {
+            run.check::<Summary>(&sheet, words, &name);
+        }
+        if *length < LONGEST as usize {
+            run.all::<Summary>(&SHEET_E, words, &name);
+        }
+    }
+}
+
+/// The name of a length of a trace with sleeps.
+fn with_sleeps(length: &str) -> String {
+    format!("{length} with sleeps")
 }
 
 /// Sheet E with each wiring; the longest walks, which take most of the time, on eight banks alone.

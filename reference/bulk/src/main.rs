@@ -19,6 +19,7 @@ fn main() {
     let mut run = Run::default();
     cases::short(&mut run, &random);
     cases::long(&mut run, &random);
+    cases::sleeping(&mut run, &random);
     let seconds = start.elapsed().as_secs_f64();
     println!(
         "bulk: seed {SEED:#x}, {} calls agree, {seconds:.1} s",

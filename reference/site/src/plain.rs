@@ -13,6 +13,11 @@ const MODE_LOW: u32 = 0x1_BF80;
 const LOWER: u32 = 0x1_2000;
 const UPPER: u32 = 0x1800;
 
+/// What a word meets where no pair is open: nothing, PD low in the word before, one wake-up word due.
+const NOTHING: u32 = 0;
+const ASLEEP: u32 = 1;
+const WAKE_UP: u32 = 2;
+
 /// The state before a word. A clock named `from` is the first that is allowed.
 struct Checker<'a> {
     sheet: &'a Sheet,
@@ -24,8 +29,9 @@ struct Checker<'a> {
     /// The pins of each lane in use, and what they hold when the lane is reserved.
     lanes: (u32, u32),
     reserved: u32,
-    /// The first word of an open pair; 0, which cannot open one unbreached, for none.
-    open: u32,
+    /// What the next word meets: the first word of an open pair, or one of the words above, none of which
+    /// can open one.
+    met: u32,
     /// The last clock that rule 3 allows.
     last: u32,
     first_extended: Option<u32>,
@@ -41,6 +47,9 @@ struct Checker<'a> {
     /// Rule 11 for a refresh, and for a mode.
     refresh_from: u32,
     mode_from: u32,
+    /// Rule 2 after the last read and the last write, and its spacings after them.
+    low_from: [u32; 2],
+    low_after: [u32; 2],
 }
 
 impl<'a> Checker<'a> {
@@ -53,7 +62,7 @@ impl<'a> Checker<'a> {
             banks: sheet.wiring - 1,
             lanes: (LOWER, if sheet.org == 16 { UPPER } else { LOWER }),
             reserved: if sheet.bl == 4 { 0 } else { u32::MAX },
-            open: 0,
+            met: NOTHING,
             last: u32::MAX,
             first_extended: None,
             regular: false,
@@ -67,6 +76,8 @@ impl<'a> Checker<'a> {
             after_refresh: 0,
             refresh_from: 0,
             mode_from: 0,
+            low_from: [0; 2],
+            low_after: [sheet.cl + sheet.bl / 2, sheet.wl() + 2].map(|d| sheet.rc().max(1 + d)),
         }
     }
 
@@ -74,18 +85,25 @@ impl<'a> Checker<'a> {
     #[inline]
     fn step(&mut self, k: u32, word: u32) -> u32 {
         if word >> 19 != 1 {
-            return if word >> 20 != 0 { 1 } else { 2 };
+            return if word >> 20 != 0 {
+                1
+            } else {
+                self.low(k, word)
+            };
         }
         if k > self.last {
             return 3;
         }
-        if self.open == 0 {
+        if self.met == NOTHING {
             if word & CS == 0 {
-                self.open = word;
+                self.met = word;
             }
             return 0;
         }
-        let first = std::mem::take(&mut self.open);
+        let first = std::mem::replace(&mut self.met, NOTHING);
+        if first <= WAKE_UP {
+            return self.wake_up(first, word);
+        }
         match (first & FN != 0, word & CS != 0) {
             (true, true) => self.access(k - 1, first, false),
             (false, true) => {
@@ -97,6 +115,40 @@ impl<'a> Checker<'a> {
             (true, false) => self.mode(k - 1, word),
             (false, false) => self.refresh(k - 1),
         }
+    }
+
+    /// A word with PD low.
+    #[inline]
+    fn low(&mut self, k: u32, word: u32) -> u32 {
+        if self.met != ASLEEP {
+            if !self.may_go_low(k, word) {
+                return 2;
+            }
+            self.met = ASLEEP;
+        }
+        if k > self.last {
+            return 3;
+        }
+        0
+    }
+
+    /// A word with PD high that meets a sleep or the second wake-up word.
+    fn wake_up(&mut self, met: u32, word: u32) -> u32 {
+        if word & CS == 0 {
+            return 13;
+        }
+        if met == ASLEEP {
+            self.met = WAKE_UP;
+        }
+        0
+    }
+
+    /// Whether PD may go low at k.
+    fn may_go_low(&self, k: u32, word: u32) -> bool {
+        let [after_read, after_write] = self.low_from;
+        let after_pairs = self.after_mode.max(self.after_refresh);
+        let from = after_pairs.max(after_read).max(after_write);
+        self.met == NOTHING && word & CS != 0 && k >= from
     }
 
     /// A read or write at u.
@@ -135,6 +187,7 @@ impl<'a> Checker<'a> {
         self.write_from = self.write_from.max(near).max(write_turn);
         self.refresh_from = u + self.rc;
         self.mode_from = self.mode_from.max(u + 1 + data + s.bl / 2).max(u + self.rc);
+        self.low_from[write as usize] = u + self.low_after[write as usize];
         0
     }
 

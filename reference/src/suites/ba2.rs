@@ -76,27 +76,24 @@ pub fn each(
 /// A whole start-up, as far as reads and writes are allowed.
 fn started(random: &Random, sheet: &Sheet) -> Trace {
     let mut trace = Trace::new(*sheet);
-    for kind in [Kind::Extended, Kind::Regular, Kind::Refresh, Kind::Refresh] {
-        trace.put_kind(random, kind, &mut Coverage::default());
-    }
-    trace.idle_until(201);
+    trace.make_ready(random);
     trace
 }
 
 /// A pair after the start-up, these pins of its closing word put high and low.
 fn closing(random: &Random, sheet: &Sheet, kind: Kind, high: u32, low: u32) -> Vec<u32> {
     let mut trace = started(random, sheet);
-    let (first, second) = trace.words_of(random, kind, random.below(8));
-    trace.pair((first, (second | high) & !low));
+    let [first, second] = trace.words_of(random, kind, random.below(8));
+    trace.add(&[first, (second | high) & !low]);
     trace.words
 }
 
 /// Two reads so many clocks apart whose first words differ in BA2 alone.
 fn two_reads(random: &Random, sheet: &Sheet, apart: u32) -> Vec<u32> {
     let mut trace = started(random, sheet);
-    let (first, second) = trace.words_of(random, Kind::Read, random.below(8));
-    trace.pair((first, second));
+    let [first, second] = trace.words_of(random, Kind::Read, random.below(8));
+    trace.add(&[first, second]);
     trace.idle_until(201 + apart);
-    trace.pair((first ^ BA2, second));
+    trace.add(&[first ^ BA2, second]);
     trace.words
 }

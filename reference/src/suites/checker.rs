@@ -1,6 +1,6 @@
 //! The examiner, step by step, whole and as a walk, and the counts: codes 2, 3, 8 and 10.
 
-use super::{ba2, long, names, near, pool, refusals, sheets};
+use super::{ba2, long, names, near, pool, power_down, refusals, sheets, tally};
 use crate::coverage::Coverage;
 use crate::judge::{check, Verdict};
 use crate::past::Past;
@@ -25,7 +25,7 @@ pub fn promised() -> Vec<String> {
         names(10, &["end", "refused 23"]),
     ]
     .concat();
-    for number in 1..=12 {
+    for number in 1..=13 {
         let breach = format!("breach {number}");
         for code in [2, 3, 10] {
             promised.extend(names(code, &[&breach]));
@@ -33,8 +33,10 @@ pub fn promised() -> Vec<String> {
     }
     promised.push("walk over an unfinished pair".to_string());
     promised.extend(near::promised());
+    promised.extend(tally::promised());
     for sheet in pool::parts() {
         promised.extend(ba2::promised(sheet.bl, sheet.wiring));
+        promised.extend(power_down::promised(sheet.wiring));
     }
     promised
 }
@@ -44,9 +46,11 @@ pub fn cases(seed: u64, scale: u32, packer: &mut Packer, coverage: &mut Coverage
     let random = Random::new(seed);
     unfit_sheets(&random, packer);
     for sheet in pool::parts() {
-        ba2::each(&random, &sheet, coverage, &mut |coverage, words| {
+        let mut judged = |coverage: &mut Coverage, words: &[u32]| {
             judged(&random, packer, coverage, &sheet, words)
-        });
+        };
+        ba2::each(&random, &sheet, coverage, &mut judged);
+        power_down::each(&random, &sheet, coverage, &mut judged);
     }
     for round in 0..scale {
         near::round(&random, round, coverage, &mut |coverage, sheet, words| {
@@ -58,6 +62,14 @@ pub fn cases(seed: u64, scale: u32, packer: &mut Packer, coverage: &mut Coverage
         let words = near::random_words(&random);
         judged(&random, packer, coverage, &sheet, &words);
         judged(&random, packer, coverage, &sheet, &[]);
+    }
+    for _ in 0..200 * scale {
+        let words = tally::some_words(&random);
+        tally::count(coverage, &words);
+        packer.group(&[
+            pool::config(&random, &pool::sheet(&random)),
+            Call::Count(words),
+        ]);
     }
     for _ in 0..4 * scale {
         long::dense(&random, packer);

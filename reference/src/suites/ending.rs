@@ -1,14 +1,18 @@
 //! The ways in which a trace of the checker's suite ends, each near some edge of the rules.
 
-use super::trace::{part_name, some_kind, Trace};
+use super::damage::damage;
+use super::sleep_ending;
+use super::trace::{meet_edges, some_kind, Trace};
 use crate::coverage::Coverage;
 use crate::pair::Kind;
 use crate::random::Random;
-use crate::word::{a, BA0, BA1, BA2, CS, DESL, PD};
+use crate::word::{a, BA0, BA1, BA2, CS, PD};
 
-/// The ways are taken in turn. Three of them wait until a refresh is due and make long traces; each of
-/// the nine others comes three times.
-const TURNS: u32 = 30;
+/// The ways are taken in turn. Four of them wait until a refresh is due and make long traces; each of the
+/// others comes three times.
+const LONG: u32 = 4;
+const SOON: u32 = 9 + sleep_ending::WAYS;
+const TURNS: u32 = LONG + 3 * SOON;
 
 /// The most refreshes in a bunch.
 const BUNCH: u32 = 10;
@@ -16,13 +20,14 @@ const BUNCH: u32 = 10;
 /// Ends a trace in the way whose turn it is.
 pub fn end(turn: u32, trace: &mut Trace, random: &Random, coverage: &mut Coverage) {
     match turn % TURNS {
-        0 => refresh_at_the_last_clock(trace, random),
+        0 => refresh_at_the_last_clock(trace, random, coverage),
         1 => overdue_pair(trace, random, coverage),
         2 => {
             let count = turn / TURNS % BUNCH + 1;
             pause_after_a_bunch(trace, random, count as usize, coverage);
         }
-        other => end_soon(other % 9, trace, random, coverage),
+        3 => sleep_ending::overdue(trace, random, coverage),
+        other => end_soon(other % SOON, trace, random, coverage),
     }
 }
 
@@ -33,45 +38,44 @@ fn end_soon(way: u32, trace: &mut Trace, random: &Random, coverage: &mut Coverag
         1 => one_clock_early(trace, random, coverage),
         2 => early_and_wrong(trace, random),
         3 => nine_refreshes(trace, random, coverage),
-        4 => damage(trace, random),
+        4 => damage(trace, random, coverage),
         5 => open_pair(trace, random),
         6 => older_pair_binds(trace, random, coverage),
         7 => access_soon_after(trace, random, coverage),
-        _ => access_after_a_wait(trace, random),
+        8 => access_after_a_wait(trace, random),
+        other => sleep_ending::end_soon(other - 9, trace, random, coverage),
     }
 }
 
-/// Counts the parts of rules that a pair put now breaks by a single clock.
-fn by_one_clock(trace: &Trace, words: (u32, u32), coverage: &mut Coverage) {
-    for broken in trace.broken_by(words) {
-        coverage.meet(&format!("broken by one clock: {}", part_name(&broken)));
-    }
+/// Counts the parts of rules that words put now break by a single clock.
+pub fn by_one_clock(trace: &Trace, words: &[u32], coverage: &mut Coverage) {
+    meet_edges(coverage, "broken by one clock", &trace.broken_by(words));
 }
 
 /// A pair one clock before its earliest, if it has to wait at all.
 fn one_clock_early(trace: &mut Trace, random: &Random, coverage: &mut Coverage) {
     let kind = some_kind(random);
     let words = trace.words_of(random, kind, random.pick(&[0, 1]));
-    if let Some(clock) = trace.earliest(words).filter(|&c| c > trace.clock()) {
+    if let Some(clock) = trace.earliest(&words).filter(|&c| c > trace.clock()) {
         trace.idle_until(clock - 1);
-        by_one_clock(trace, words, coverage);
+        by_one_clock(trace, &words, coverage);
     }
-    trace.pair(words);
+    trace.add(&words);
 }
 
 /// A pair at any clock before its earliest, often wrong in its pins too.
 fn early_and_wrong(trace: &mut Trace, random: &Random) {
     let kind = some_kind(random);
     let words = trace.words_of(random, kind, random.pick(&[0, 1]));
-    if let Some(clock) = trace.earliest(words) {
+    if let Some(clock) = trace.earliest(&words) {
         let wait = random.below((clock - trace.clock()).min(20) + 1);
         trace.idle_until(clock - wait);
     }
-    trace.pair(spoil(random, kind, words));
+    trace.add(&spoil(random, kind, words));
 }
 
 /// The words with some of their pins put wrong.
-fn spoil(random: &Random, kind: Kind, (mut first, mut second): (u32, u32)) -> (u32, u32) {
+fn spoil(random: &Random, kind: Kind, [mut first, mut second]: [u32; 2]) -> [u32; 2] {
     if random.once_in(2) && kind.is_mode() {
         second ^= random.pick(&[BA2, BA1, BA0, a(0), a(1), a(6), a(7), a(13)]);
     }
@@ -87,32 +91,36 @@ fn spoil(random: &Random, kind: Kind, (mut first, mut second): (u32, u32)) -> (u
     if random.once_in(20) {
         first ^= random.pick(&[PD, 1 << 20, 1 << 31]);
     }
-    (first, second)
+    [first, second]
 }
 
 /// A REF word at the last clock that rule 3 allows and a pause, or one clock later, or none at all.
-fn refresh_at_the_last_clock(trace: &mut Trace, random: &Random) {
+fn refresh_at_the_last_clock(trace: &mut Trace, random: &Random, coverage: &mut Coverage) {
     let Some(limit) = trace.refresh_limit() else {
         return trace.idle_until(trace.clock() + 1000);
     };
     let late = random.below(3);
-    refresh_by(trace, random, limit + late);
+    refresh_by(trace, random, limit + late, coverage);
     if late == 0 && random.once_in(2) {
-        idle_about_the_limit(trace, random);
+        pause_about_the_limit(trace, random, coverage);
     }
 }
 
-/// A refresh with its REF word at a clock, unless that is past.
-fn refresh_by(trace: &mut Trace, random: &Random, clock: u32) {
+/// A refresh with its REF word at a clock, unless that is past; at times a sleep is before it.
+fn refresh_by(trace: &mut Trace, random: &Random, clock: u32, coverage: &mut Coverage) {
+    if random.once_in(3) {
+        trace.pass_until(random, clock - 3, coverage);
+    }
     trace.idle_until(clock - 1);
     let words = trace.words_of(random, Kind::Refresh, random.below(8));
-    trace.pair(words);
+    trace.add(&words);
 }
 
-/// DESL up to the last clock that rule 3 allows, or not quite, or up to the next.
-fn idle_about_the_limit(trace: &mut Trace, random: &Random) {
+/// DESL, or a sleep, up to the last clock that rule 3 allows, or not quite, or up to the next.
+fn pause_about_the_limit(trace: &mut Trace, random: &Random, coverage: &mut Coverage) {
     if let Some(limit) = trace.refresh_limit() {
-        trace.idle_until(limit + random.pick(&[0, 1, 2, 2]));
+        let clock = limit + random.pick(&[0, 1, 2, 2]);
+        trace.pass_until(random, clock, coverage);
     }
 }
 
@@ -130,10 +138,10 @@ fn pause_after_a_bunch(trace: &mut Trace, random: &Random, count: usize, coverag
     };
     for _ in 0..further {
         if let Some(limit) = trace.refresh_limit() {
-            refresh_by(trace, random, limit);
+            refresh_by(trace, random, limit, coverage);
         }
     }
-    idle_about_the_limit(trace, random);
+    pause_about_the_limit(trace, random, coverage);
 }
 
 /// Refreshes as close as allowed until there are so many.
@@ -154,15 +162,17 @@ fn overdue_pair(trace: &mut Trace, random: &Random, coverage: &mut Coverage) {
     for _ in 0..random.below(4) {
         let kind = some_kind(random);
         let words = trace.words_of(random, kind, random.pick(&[0, 1]));
-        let fits = trace.earliest(words).is_some_and(|clock| clock + 1 < limit);
+        let fits = trace
+            .earliest(&words)
+            .is_some_and(|clock| clock + 1 < limit);
         if fits && kind != Kind::Refresh {
-            trace.put(words, coverage);
+            trace.put(&words, coverage);
         }
     }
     trace.idle_until(limit);
     let kind = some_kind(random);
     let words = trace.words_of(random, kind, random.pick(&[0, 1]));
-    trace.pair(spoil(random, kind, words));
+    trace.add(&spoil(random, kind, words));
 }
 
 /// Refreshes as close as allowed, and one more where the eighth last still binds, maybe beside
@@ -177,12 +187,12 @@ fn nine_refreshes(trace: &mut Trace, random: &Random, coverage: &mut Coverage) {
         trace.put_kind(random, some_kind(random), coverage);
     }
     let words = trace.words_of(random, Kind::Refresh, random.below(8));
-    if let Some(clock) = trace.earliest(words) {
+    if let Some(clock) = trace.earliest(&words) {
         let wait = clock - trace.clock();
         let early = random.pick(&[0, 1, wait, wait - random.below(wait.min(5) + 1)]);
         trace.idle_until(clock - early.min(wait));
         if early == 1 && wait > 0 {
-            by_one_clock(trace, words, coverage);
+            by_one_clock(trace, &words, coverage);
         }
     }
     let words = if random.once_in(4) {
@@ -190,41 +200,15 @@ fn nine_refreshes(trace: &mut Trace, random: &Random, coverage: &mut Coverage) {
     } else {
         words
     };
-    trace.pair(words);
+    trace.add(&words);
     trace.idle_until(trace.clock() + random.below(3));
-}
-
-/// Bits turned over, words lost or doubled, anywhere.
-fn damage(trace: &mut Trace, random: &Random) {
-    for _ in 0..random.between(1, 3) {
-        if trace.words.is_empty() {
-            return;
-        }
-        let busy: Vec<usize> = (0..trace.words.len())
-            .filter(|&i| trace.words[i] != DESL)
-            .collect();
-        let anywhere = random.below(trace.words.len() as u32) as usize;
-        let place = match busy.len() as u32 {
-            0 => anywhere,
-            _ if random.once_in(4) => anywhere,
-            n => busy[random.below(n) as usize],
-        };
-        match random.below(6) {
-            0 => {
-                trace.words.remove(place);
-            }
-            1 => trace.words.insert(place, trace.words[place]),
-            2 => trace.words[place] = random.bits(),
-            _ => trace.words[place] ^= 1 << random.below(if random.once_in(4) { 32 } else { 20 }),
-        }
-    }
 }
 
 /// A first word and no second.
 fn open_pair(trace: &mut Trace, random: &Random) {
     let words = trace.words_of(random, some_kind(random), random.below(8));
     trace.idle_until(trace.clock() + random.below(5));
-    trace.word(words.0 & !CS);
+    trace.word(words[0] & !CS);
 }
 
 /// Reads or writes of one bank with those of another between, the last one at the edge of RC.
@@ -232,22 +216,22 @@ fn older_pair_binds(trace: &mut Trace, random: &Random, coverage: &mut Coverage)
     let kinds = [Kind::Read, Kind::Write];
     let kind = random.pick(&kinds);
     let words = trace.words_of(random, kind, 5);
-    if !trace.put(words, coverage) {
+    if !trace.put(&words, coverage) {
         return;
     }
     let start = trace.clock() - 2;
     let between = trace.words_of(random, random.pick(&kinds), 6);
     let fits = trace
-        .earliest(between)
+        .earliest(&between)
         .is_some_and(|clock| clock + 2 < start + trace.sheet.rc());
     if fits {
-        trace.put(between, coverage);
+        trace.put(&between, coverage);
         coverage.meet("an older pair of the bank binds");
     }
     let again = trace.words_of(random, random.pick(&kinds), 5);
     let early = random.below(2);
     trace.idle_until(start + trace.sheet.rc() - early);
-    trace.pair(again);
+    trace.add(&again);
 }
 
 /// A read or write, a mode or refresh as soon as allowed, and a read or write right after.
@@ -261,7 +245,7 @@ fn access_soon_after(trace: &mut Trace, random: &Random, coverage: &mut Coverage
     trace.idle_until(trace.clock() + random.below(2));
     let kind = random.pick(&kinds);
     let words = trace.words_of(random, kind, random.pick(&[0, 3]));
-    trace.pair(spoil(random, kind, words));
+    trace.add(&spoil(random, kind, words));
 }
 
 /// A read or write well after all else, which only a start-up that is not whole forbids.
@@ -269,5 +253,5 @@ fn access_after_a_wait(trace: &mut Trace, random: &Random) {
     trace.idle_until(trace.clock() + random.between(100, 300));
     let kind = random.pick(&[Kind::Read, Kind::Write]);
     let words = trace.words_of(random, kind, random.below(8));
-    trace.pair(words);
+    trace.add(&words);
 }

@@ -1,4 +1,4 @@
-//! Valid traces of any length: idle, busy and mixed ones.
+//! Valid traces of any length: idle, busy, mixed and sleeping ones.
 
 use crate::pair::{self, Kind, Operation};
 use crate::past::Past;
@@ -6,7 +6,14 @@ use crate::random::Random;
 use crate::sheet::Sheet;
 use crate::suites::pool;
 use crate::summary::Summary;
-use crate::word::DESL;
+use crate::word::{CS, DESL};
+
+/// A word with PD low, as it is written.
+const LOW: u32 = CS;
+
+/// REFC, the longest burst of reads and writes, and the longest sleep with its wake-up words fit into so
+/// many clocks.
+const ROUND: u32 = 500;
 
 /// A trace under way; every pair waits until the rules admit it.
 struct Load {
@@ -58,6 +65,14 @@ impl Load {
         }
         self.word(words.0);
         self.word(words.1);
+    }
+
+    /// PD goes low as soon as allowed, and is low for so many clocks.
+    fn sleep(&mut self, clocks: u32) {
+        while self.past.lowest(&self.sheet, LOW).is_some() {
+            self.word(DESL);
+        }
+        (0..clocks).for_each(|_| self.word(LOW));
     }
 
     /// The last clock that rule 3 allows without another refresh.
@@ -125,6 +140,23 @@ pub fn mixed(random: &Random, sheet: &Sheet, length: usize) -> Vec<u32> {
         if random.once_in(2) {
             load.idle_until(load.clock() + random.below(16));
         }
+    }
+    load.cut(length)
+}
+
+/// Bursts of reads and writes, and sleeps of 5 to 200 clocks between them, with refreshes.
+pub fn sleeping(random: &Random, sheet: &Sheet, length: usize) -> Vec<u32> {
+    let mut load = Load::started(sheet, length);
+    while load.words.len() < length {
+        // Of refreshes that came close together, the next ones are due so too.
+        while load.clock() + ROUND > load.due() {
+            load.refresh();
+        }
+        for _ in 0..random.between(1, 16) {
+            let kind = random.pick(&[Kind::Read, Kind::Write]);
+            load.put_kind(random, kind, random.below(8));
+        }
+        load.sleep(random.between(5, 200));
     }
     load.cut(length)
 }

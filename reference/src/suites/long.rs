@@ -2,7 +2,6 @@
 
 use super::pool;
 use super::trace::Trace;
-use crate::coverage::Coverage;
 use crate::judge::LONGEST;
 use crate::pair::Kind;
 use crate::past::Past;
@@ -10,15 +9,12 @@ use crate::random::Random;
 use crate::script::{Call, Packer};
 use crate::sheet::{Sheet, SHEET_E, SHEET_E_OF_FOUR};
 use crate::summary::Summary;
-use crate::word::{DESL, FN, PD};
+use crate::word::{CS, DESL, FN, PD};
 
 /// A trace of accesses at random banks, each as soon as allowed, with the refreshes that are due.
 pub fn dense_words(random: &Random, sheet: &Sheet, length: usize) -> Vec<u32> {
     let mut start = Trace::new(*sheet);
-    for kind in [Kind::Extended, Kind::Regular, Kind::Refresh, Kind::Refresh] {
-        start.put_kind(random, kind, &mut Coverage::default());
-    }
-    start.idle_until(201);
+    start.make_ready(random);
     let mut words = start.words;
     let mut past = Summary::fresh();
     words.iter().for_each(|&word| past.push(sheet, word));
@@ -63,7 +59,7 @@ pub fn dense(random: &Random, packer: &mut Packer) {
     packer.group(&[pool::config(random, &sheet), Call::Walk(words)]);
 }
 
-/// The last clock: 24 there, for a good word and a bad one, and 23 ahead of it after a breach.
+/// The last clock: 24 there, for a good word and a bad one, asleep too, and 23 ahead of it after a breach.
 pub fn last_clock(random: &Random, packer: &mut Packer) {
     let quick = |sheet| Sheet { rsc: 2, ..sheet };
     let fresh = pool::config(random, &quick(SHEET_E));
@@ -78,7 +74,8 @@ pub fn last_clock(random: &Random, packer: &mut Packer) {
         step(1, 0),
         step(0, 0),
         of_four.clone(),
-        step(u32::MAX, DESL),
+        step(u32::MAX, CS),
+        step(1, 0),
         step(0, DESL),
         of_four,
         step(LONGEST - 1, DESL),

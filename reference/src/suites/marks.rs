@@ -1,21 +1,21 @@
 //! Inputs for the marker program: every short length, those around the longest, and traces on
 //! sheet E near the edges of the rules.
 
-use super::{ba2, long, near};
+use super::{ba2, load, long, near, power_down, sleep};
 use crate::both::Both;
 use crate::coverage::Coverage;
 use crate::hand_in::{marker_line, LONGEST_MARKED};
 use crate::random::Random;
 use crate::script::bytes;
 use crate::sheet::SHEET_E;
-use crate::word::DESL;
+use crate::word::{CS, DESL};
 
 /// Parts of rules that no pair can break on sheet E, whose RBD and WRD a pair's two words fill.
 const NEVER_ON_E: [&str; 2] = ["8 RBD", "8 WRD"];
 
 /// What the inputs must meet.
 pub fn promised() -> Vec<String> {
-    let mut promised: Vec<String> = (1..=12).map(|n| format!("breach {n}")).collect();
+    let mut promised: Vec<String> = (1..=13).map(|n| format!("breach {n}")).collect();
     let others = [
         "accepted",
         "accepted, as long as allowed",
@@ -28,14 +28,17 @@ pub fn promised() -> Vec<String> {
     let over = |number, rest| format!("refused {number}, {rest} bytes over whole words");
     promised.extend((0..4).map(|rest| over(25, rest)));
     promised.extend((1..4).map(|rest| over(29, rest)));
-    for part in near::EDGES {
-        if !NEVER_ON_E.contains(&part) {
-            promised.push(format!("kept at its edge: {part}"));
-            promised.push(format!("broken by one clock: {part}"));
-        }
-    }
+    let on_e = |part: &&str| !NEVER_ON_E.contains(part);
+    promised.extend(
+        near::EDGES
+            .into_iter()
+            .filter(on_e)
+            .flat_map(near::promised_edge),
+    );
     promised.extend(near::promised_refresh_edges());
+    promised.extend(sleep::promised());
     promised.extend(ba2::promised(SHEET_E.bl, SHEET_E.wiring));
+    promised.extend(power_down::promised(SHEET_E.wiring));
     promised
 }
 
@@ -44,9 +47,12 @@ pub fn inputs(seed: u64, scale: u32, coverage: &mut Coverage, send: &mut dyn FnM
     let random = Random::new(seed);
     short(&random, send);
     around_the_longest(&random, send);
-    ba2::each(&random, &SHEET_E, coverage, &mut |_, words| {
+    let mut judged = |coverage: &mut Coverage, words: &[u32]| {
+        near::count_broken(coverage, &SHEET_E, words);
         send(&bytes(words))
-    });
+    };
+    ba2::each(&random, &SHEET_E, coverage, &mut judged);
+    power_down::each(&random, &SHEET_E, coverage, &mut judged);
     traces(&random, scale, coverage, send);
 }
 
@@ -54,6 +60,7 @@ pub fn inputs(seed: u64, scale: u32, coverage: &mut Coverage, send: &mut dyn FnM
 fn short(random: &Random, send: &mut dyn FnMut(&[u8])) {
     assert_eq!(marker_line::<Both>(&[]), "accepted 0\n");
     assert_eq!(marker_line::<Both>(&[0; 4]), "breach 0 2\n");
+    assert_eq!(marker_line::<Both>(&bytes(&[CS])), "accepted 1\n");
     send(&[]);
     send(&[0; 4]);
     let start_up = bytes(&long::dense_words(random, &SHEET_E, 300));
@@ -61,6 +68,8 @@ fn short(random: &Random, send: &mut dyn FnMut(&[u8])) {
     let contents = [
         &start_up[..40],
         &bytes(&[DESL; 10]),
+        &bytes(&[CS; 10]),
+        &bytes(&[&[CS][..], &[0; 9]].concat()),
         &noise,
         &[0; 40],
         &[0xFF; 40],
@@ -76,9 +85,10 @@ fn short(random: &Random, send: &mut dyn FnMut(&[u8])) {
 fn around_the_longest(random: &Random, send: &mut dyn FnMut(&[u8])) {
     let valid = bytes(&long::dense_words(random, &SHEET_E, 32_768));
     let idle = bytes(&vec![DESL; 1 << 18]);
+    let asleep = bytes(&vec![CS; 1 << 18]);
     for length in (65_524..=65_548).chain([65_600, 70_000, 131_071, 131_072]) {
         send(&valid[..length]);
-        send(&idle[..length]);
+        send(random.pick(&[&idle[..length], &asleep[..length]]));
         let anywhere = random.below(LONGEST_MARKED as u32) as usize;
         for place in [3, 65_531, 65_535, 65_539, anywhere] {
             if place < length {
@@ -99,7 +109,8 @@ fn around_the_longest(random: &Random, send: &mut dyn FnMut(&[u8])) {
     }
 }
 
-/// Traces near the edges of the rules, words at random, and long traces with a little damage.
+/// Traces near the edges of the rules, words at random, and long traces, dense ones and sleeping ones, with
+/// a little damage.
 fn traces(random: &Random, scale: u32, coverage: &mut Coverage, send: &mut dyn FnMut(&[u8])) {
     for way in 0..3_000 * scale {
         let words = near::near_words(random, coverage, SHEET_E, way);
@@ -114,7 +125,10 @@ fn traces(random: &Random, scale: u32, coverage: &mut Coverage, send: &mut dyn F
             0 => 16_384,
             _ => random.between(202, 16_384) as usize,
         };
-        let mut words = long::dense_words(random, &SHEET_E, length);
+        let mut words = match round % 2 {
+            0 => long::dense_words(random, &SHEET_E, length),
+            _ => load::sleeping(random, &SHEET_E, length),
+        };
         words.truncate(length);
         send(&bytes(&words));
         let place = random.below(length as u32) as usize;

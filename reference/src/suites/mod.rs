@@ -3,6 +3,7 @@
 pub mod ba2;
 pub mod checker;
 pub mod controller;
+mod damage;
 mod ending;
 pub mod load;
 pub mod long;
@@ -10,10 +11,14 @@ pub mod marks;
 pub mod near;
 pub mod pairs;
 pub mod pool;
+pub mod power_down;
 pub mod ranges;
 pub mod scripts;
 pub mod sheets;
+pub mod sleep;
+mod sleep_ending;
 pub mod states;
+pub mod tally;
 pub mod trace;
 
 use crate::coverage::Coverage;

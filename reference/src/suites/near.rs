@@ -1,20 +1,20 @@
 //! Traces near the edges of the rules, and what they meet of them: for every suite that judges traces.
 
 use super::ending::end;
-use super::pool;
 use super::trace::{part_name, refresh_limit, some_kind, Trace};
+use super::{damage, pool, sleep};
 use crate::coverage::Coverage;
 use crate::history::History;
 use crate::judge::first_broken;
 use crate::random::Random;
 use crate::sheet::Sheet;
-use crate::word::{CS, DESL, FN, PD};
+use crate::word::{high, CS, DESL, FN, PD};
 
 /// The breaches that can stand at one clock together; any other two exclude each other.
 const TOGETHER: [(u32, &[u32]); 11] = [
-    (1, &[2, 3, 4, 5, 6, 7, 8, 9, 10, 11, 12]),
+    (1, &[2, 3, 4, 5, 6, 7, 8, 9, 10, 11, 12, 13]),
     (2, &[3, 4, 5, 6, 7, 8, 9, 10, 11, 12]),
-    (3, &[4, 5, 6, 7, 8, 9, 11]),
+    (3, &[4, 5, 6, 7, 8, 9, 11, 13]),
     (4, &[9, 10, 11]),
     (5, &[6, 7, 8, 9, 10]),
     (6, &[9, 10]),
@@ -25,8 +25,13 @@ const TOGETHER: [(u32, &[u32]); 11] = [
     (11, &[12]),
 ];
 
-/// The parts of rules that a pair can wait out, and so meet at their very edge.
-pub const EDGES: [&str; 12] = [
+/// The parts of rules that a pair, or a word that goes low, can wait out, and so meet at their very edge.
+pub const EDGES: [&str; 18] = [
+    "2 RSC",
+    "2 REFC",
+    "2 read data",
+    "2 write data",
+    "2 wake-up word due",
     "3 D",
     "6 200 clocks",
     "7 RC",
@@ -39,17 +44,24 @@ pub const EDGES: [&str; 12] = [
     "11 read data",
     "11 write data",
     "12 W",
+    "13 second wake-up word",
 ];
 
+/// Parts of rule 2 that are never broken alone: the data of a read or write is over with RC or after it,
+/// and with it only at CL 3.
+const WITH_DATA: [&str; 2] = ["2 RC after a read", "2 RC after a write"];
+
 /// The parts that no waiting mends.
-const OTHER_PARTS: [&str; 7] = [
+const OTHER_PARTS: [&str; 9] = [
     "1 high bit",
-    "2 PD low",
+    "2 pair open",
+    "2 CS low",
     "4 fields",
     "5 lane",
     "6 no extended MRS",
     "6 no regular MRS",
     "6 no second REF",
+    "13 first wake-up word",
 ];
 
 /// The most REF words before an edge of rule 3 that are counted by their number.
@@ -84,13 +96,27 @@ pub fn promised() -> Vec<String> {
                 .map(|high| format!("together: {low} and {high}")),
         );
     }
-    for part in EDGES {
+    promised.extend(EDGES.into_iter().flat_map(promised_edge));
+    promised.extend(EDGES.map(|part| format!("broken alone: {part}")));
+    promised.extend(OTHER_PARTS.map(|part| format!("broken alone: {part}")));
+    for part in WITH_DATA {
         promised.push(format!("kept at its edge: {part}"));
         promised.push(format!("broken by one clock: {part}"));
-        promised.push(format!("broken alone: {part}"));
     }
-    promised.extend(OTHER_PARTS.map(|part| format!("broken alone: {part}")));
+    promised.push("kept at its edge: 2 pair open".to_string());
     promised.push("an older pair of the bank binds".to_string());
+    promised.extend(sleep::promised());
+    promised.extend(damage::promised());
+    promised
+}
+
+/// An edge kept and broken; those of power down also where nothing else stands there.
+pub fn promised_edge(part: &str) -> Vec<String> {
+    let edges = ["kept at its edge", "broken by one clock"];
+    let mut promised = edges.map(|edge| format!("{edge}: {part}")).to_vec();
+    if part.starts_with("2 ") || part.starts_with("13 ") {
+        promised.extend(edges.map(|edge| format!("{edge}, alone: {part}")));
+    }
     promised
 }
 
@@ -115,10 +141,16 @@ pub fn round(
 /// A trace on a sheet that keeps close to the rules, ended in one of the ways.
 pub fn near_words(random: &Random, coverage: &mut Coverage, sheet: Sheet, way: u32) -> Vec<u32> {
     let mut trace = Trace::new(sheet);
+    if random.once_in(12) {
+        trace.nap(random, coverage);
+    }
     trace.start_up(random, coverage);
     for _ in 0..random.pick(&[0, 1, 2, 5, 12]) {
         let kind = some_kind(random);
         trace.put_kind(random, kind, coverage);
+        if random.once_in(5) {
+            trace.nap(random, coverage);
+        }
         if random.once_in(6) {
             trace.idle_until(trace.clock() + random.below(6));
         }
@@ -134,7 +166,8 @@ pub fn near_words(random: &Random, coverage: &mut Coverage, sheet: Sheet, way: u
 /// one part alone, or rules together.
 pub fn count_broken(coverage: &mut Coverage, sheet: &Sheet, words: &[u32]) {
     let (kept, broken) = first_broken(sheet, words);
-    count_refresh_edges(coverage, sheet, &kept);
+    sleep::count(coverage, &kept, words, &broken);
+    count_refresh_edges(coverage, sheet, &kept, words);
     if broken.first().is_some_and(|b| b.number == 3) {
         // Every REF word allows later clocks, so the first that is too late is so by one.
         meet_refresh_edge(coverage, "broken by one clock", kept.ref_words().count());
@@ -152,13 +185,16 @@ pub fn count_broken(coverage: &mut Coverage, sheet: &Sheet, words: &[u32]) {
 }
 
 /// Counts the words kept that stand at the last clock that rule 3 allows.
-fn count_refresh_edges(coverage: &mut Coverage, sheet: &Sheet, kept: &History) {
+fn count_refresh_edges(coverage: &mut Coverage, sheet: &Sheet, kept: &History, words: &[u32]) {
     let refs: Vec<u32> = kept.ref_words().collect();
     for count in 1..=refs.len() {
         // The last word with so many REF words before it: the next REF word, or the last of all.
         let last = refs.get(count).copied().unwrap_or(kept.clock - 1);
         if refresh_limit(sheet, &refs[..count]) == Some(last) {
             meet_refresh_edge(coverage, "kept at its edge", count);
+            if !high(words[last as usize], PD) {
+                coverage.meet("kept at its edge: 3 while PD is low");
+            }
         }
     }
 }
@@ -173,6 +209,9 @@ fn meet_refresh_edge(coverage: &mut Coverage, what: &str, refs: usize) {
 pub fn random_words(random: &Random) -> Vec<u32> {
     let few = [
         DESL,
+        CS,
+        CS | FN,
+        0,
         PD,
         PD | FN,
         PD | 0x4000,

@@ -1,12 +1,12 @@
 //! The script itself: calls of all codes mixed, the configuration at the start, and scripts that
 //! are refused whole or from some call on.
 
-use super::{configs, names, pool, sheets, trace};
+use super::{configs, names, pool, sheets, sleep, trace};
 use crate::coverage::Coverage;
 use crate::random::Random;
 use crate::script::{bytes, Call, Packer, PairNumbers};
 use crate::sheet::{Sheet, SHEET_E};
-use crate::word::{DESL, FN, PD};
+use crate::word::{CS, DESL, FN, PD};
 
 /// What this suite must meet.
 pub fn promised() -> Vec<String> {
@@ -88,6 +88,7 @@ fn some_call(random: &Random, sheet: &Sheet) -> Call {
     let kind = trace::some_kind(random);
     let operation = pool::operation(random, &fit, kind, random.below(8));
     let (first, second) = pool::noisy(random, &fit, kind, &operation);
+    let low = sleep::low_word(random);
     let mut request = pool::request(random, &fit, random.once_in(2), random.below(8)).numbers();
     if random.once_in(9) {
         request[1] = fit.wiring;
@@ -101,9 +102,9 @@ fn some_call(random: &Random, sheet: &Sheet) -> Call {
         },
         4 => Call::Step {
             count: random.below(3),
-            word: random.pick(&[first, second, PD | FN]),
+            word: random.pick(&[first, second, PD | FN, low]),
         },
-        5 => Call::Check(vec![DESL; random.below(20) as usize]),
+        5 => Call::Check(vec![random.pick(&[DESL, low]); random.below(20) as usize]),
         6 => Call::Check(vec![DESL, first, second, DESL]),
         7 => Call::Offer(request),
         8..=9 => Call::OfferLent(request),
@@ -113,8 +114,8 @@ fn some_call(random: &Random, sheet: &Sheet) -> Call {
         15 => Call::WritePair(PairNumbers::Access(request)),
         16 => Call::WritePair(PairNumbers::Regular(random.below(3))),
         17 => Call::WritePair(PairNumbers::Extended(random.below(66))),
-        18 => Call::Count(vec![DESL, first, second, DESL]),
-        19 => Call::Walk([DESL, first, second, DESL][..random.below(5) as usize].to_vec()),
+        18 => Call::Count(vec![low, low & !CS, first, second, low, first]),
+        19 => Call::Walk([low, DESL, DESL, first, second][..random.below(6) as usize].to_vec()),
         _ => Call::Waiting,
     }
 }

@@ -10,6 +10,7 @@ use crate::sheet::Sheet;
 use crate::word::DESL;
 
 /// A trace under way and what the rules make of it.
+#[derive(Clone)]
 pub struct Trace {
     pub sheet: Sheet,
     pub past: History,
@@ -26,6 +27,16 @@ pub fn refresh_limit(sheet: &Sheet, refs: &[u32]) -> Option<u32> {
 /// The name of a broken part of a rule.
 pub fn part_name(broken: &Broken) -> String {
     format!("{} {}", broken.number, broken.part)
+}
+
+/// Counts parts of rules that are a single clock away, and one that nothing else stands beside once more.
+pub fn meet_edges(coverage: &mut Coverage, what: &str, parts: &[Broken]) {
+    for part in parts {
+        coverage.meet(&format!("{what}: {}", part_name(part)));
+    }
+    if let [only] = parts {
+        coverage.meet(&format!("{what}, alone: {}", part_name(only)));
+    }
 }
 
 impl Trace {
@@ -66,26 +77,27 @@ impl Trace {
         }
     }
 
-    /// Adds both words of a pair.
-    pub fn pair(&mut self, (first, second): (u32, u32)) {
-        self.word(first);
-        self.word(second);
+    /// Adds words, whatever the rules say.
+    pub fn add(&mut self, words: &[u32]) {
+        words.iter().for_each(|&word| self.word(word));
     }
 
-    /// What a pair begun now would break, at the first of its words that breaks something.
-    pub fn broken_by(&self, words: (u32, u32)) -> Vec<Broken> {
+    /// What words put now would break, at the first of them that breaks something.
+    pub fn broken_by(&self, words: &[u32]) -> Vec<Broken> {
         let mut ahead = self.past.clone();
-        let at_first = ahead.broken(&self.sheet, words.0);
-        if !at_first.is_empty() {
-            return at_first;
+        for &word in words {
+            let broken = ahead.broken(&self.sheet, word);
+            if !broken.is_empty() {
+                return broken;
+            }
+            ahead.push(&self.sheet, word);
         }
-        ahead.push(&self.sheet, words.0);
-        ahead.broken(&self.sheet, words.1)
+        Vec::new()
     }
 
-    /// The earliest clock from now on at which the pair breaks nothing; none if waiting for it
-    /// breaks rule 3 or is in vain.
-    pub fn earliest(&self, words: (u32, u32)) -> Option<u32> {
+    /// The earliest clock from now on at which the words, both of a pair or one that goes low, break
+    /// nothing; none if waiting for it breaks rule 3 or is in vain.
+    pub fn earliest(&self, words: &[u32]) -> Option<u32> {
         let mut ahead = Trace {
             sheet: self.sheet,
             past: self.past.clone(),
@@ -101,34 +113,40 @@ impl Trace {
         None
     }
 
-    /// Puts the pair at its earliest clock, and counts the parts of rules that held it back until
-    /// then. False if it cannot be put.
-    pub fn put(&mut self, words: (u32, u32), coverage: &mut Coverage) -> bool {
+    /// Puts the words at their earliest clock, and counts the parts of rules that held them back until
+    /// then. False if they cannot be put.
+    pub fn put(&mut self, words: &[u32], coverage: &mut Coverage) -> bool {
         let Some(clock) = self.earliest(words) else {
             return false;
         };
         if clock > self.clock() {
             self.idle_until(clock - 1);
-            for broken in self.broken_by(words) {
-                coverage.meet(&format!("kept at its edge: {}", part_name(&broken)));
-            }
+            meet_edges(coverage, "kept at its edge", &self.broken_by(words));
         }
         self.idle_until(clock);
-        self.pair(words);
+        self.add(words);
         true
     }
 
     /// Words for a pair of the kind, ignored pins at random.
-    pub fn words_of(&self, random: &Random, kind: Kind, bank: u32) -> (u32, u32) {
+    pub fn words_of(&self, random: &Random, kind: Kind, bank: u32) -> [u32; 2] {
         let operation = pool::operation(random, &self.sheet, kind, bank);
-        pool::noisy(random, &self.sheet, kind, &operation)
+        pool::noisy(random, &self.sheet, kind, &operation).into()
     }
 
     /// Puts a pair of the kind at its earliest clock.
     pub fn put_kind(&mut self, random: &Random, kind: Kind, coverage: &mut Coverage) -> bool {
         let bank = random.pick(&[0, 0, 0, 1, 2, 7]);
         let words = self.words_of(random, kind, bank);
-        self.put(words, coverage)
+        self.put(&words, coverage)
+    }
+
+    /// The start-up whole, in the usual order, as far as reads and writes are allowed.
+    pub fn make_ready(&mut self, random: &Random) {
+        for kind in [Kind::Extended, Kind::Regular, Kind::Refresh, Kind::Refresh] {
+            self.put_kind(random, kind, &mut Coverage::default());
+        }
+        self.idle_until(201);
     }
 
     /// The start-up, mostly in the usual order and whole, at the earliest clocks.

@@ -1,4 +1,4 @@
-//! Times the archive's check beside a plain one-pass checker in Rust, in the same run, on three
+//! Times the archive's check beside a plain one-pass checker in Rust, in the same run, on four
 //! valid traces. A measurement, not a test.
 
 use reference::both::Both;
@@ -7,7 +7,7 @@ use reference::hand_in::site_number;
 use reference::random::Random;
 use reference::script::bytes;
 use reference::sheet::{Sheet, SHEET_E};
-use reference::suites::{load, near, pool};
+use reference::suites::{load, near, pool, power_down};
 use site::call::Form;
 use site::plain;
 use std::hint::black_box;
@@ -53,18 +53,30 @@ fn plain_is_sound(random: &Random) {
     let mut coverage = Coverage::default();
     for way in 0..6_000 {
         let sheet = pool::sheet(random);
-        let trace = bytes(&near::near_words(random, &mut coverage, sheet, way));
-        let wanted = site_number::<Both>(&sheet, &trace);
-        assert_eq!(plain::check(&sheet, &trace), wanted, "{sheet:?}");
+        let words = near::near_words(random, &mut coverage, sheet, way);
+        same_answer(&sheet, &words);
+        same_answer(&sheet, &near::random_words(random));
+    }
+    for sheet in pool::parts() {
+        power_down::each(random, &sheet, &mut coverage, &mut |_, words| {
+            same_answer(&sheet, words)
+        });
     }
 }
 
+fn same_answer(sheet: &Sheet, words: &[u32]) {
+    let trace = bytes(words);
+    let wanted = site_number::<Both>(sheet, &trace);
+    assert_eq!(plain::check(sheet, &trace), wanted, "{sheet:?}");
+}
+
 fn main() {
+    plain_is_sound(&Random::new(SEED + 1));
     let random = Random::new(SEED);
-    plain_is_sound(&random);
     println!("{WORDS} words each, sheet E, seed {SEED:#x}, best of {ROUNDS} rounds in turn");
     println!("million words a second          fcram     Rust   fcram/Rust");
     compare("DESL and needed refreshes", load::idle(&SHEET_E, WORDS));
     compare("dense accesses", load::busy(&random, &SHEET_E, WORDS));
     compare("mixed at random", load::mixed(&random, &SHEET_E, WORDS));
+    compare("sleeping", load::sleeping(&random, &SHEET_E, WORDS));
 }

@@ -1,9 +1,10 @@
 //! Every short length in bytes at every address, and every beginning of a trace.
 
 use crate::run::Run;
-use reference::judge::{judge, Verdict};
+use reference::past::Past;
+use reference::phase::Phase;
 use reference::script::bytes;
-use reference::sheet::SHEET_E;
+use reference::sheet::{Sheet, SHEET_E};
 use reference::suites::{long, near, pool};
 use reference::summary::Summary;
 use reference::word::{CS, DESL};
@@ -33,7 +34,8 @@ fn short_lengths(run: &mut Run) {
     let valid = bytes(&long::dense_words(&run.random, &sheet, 300));
     let noise: Vec<u8> = (0..72).map(|_| run.random.bits() as u8).collect();
     let idle = bytes(&[DESL; 18]);
-    for content in [&valid[..72], &idle, &noise, &[0; 72], &[0xFF; 72]] {
+    let asleep = bytes(&[&[CS][..], &[0; 17]].concat());
+    for content in [&valid[..72], &idle, &asleep, &noise, &[0; 72], &[0xFF; 72]] {
         for length in 0..=SHORT_LENGTHS {
             for address in 0..4 {
                 for at_edge in [false, true] {
@@ -55,8 +57,9 @@ fn beginnings(run: &mut Run, way: u32) {
     let last = words.len().saturating_sub(LAST).max(FIRST);
     for count in (0..words.len().min(FIRST)).chain(last..words.len()) {
         run.short(&sheet, &trace[..4 * count]);
-        if open(&words[..count]) && judge::<Summary>(&sheet, &words[..count]) == Verdict::Accepted {
-            run.coverage.meet("accepted with a pair open at the end");
+        if let Some(end) = accepted_end(&sheet, &words[..count]) {
+            run.coverage
+                .meet(&format!("accepted with {end} at the end"));
         }
     }
     let end = trace.len().saturating_sub(24);
@@ -65,9 +68,19 @@ fn beginnings(run: &mut Run, way: u32) {
     }
 }
 
-/// Whether a trace ends with a pair open.
-fn open(words: &[u32]) -> bool {
-    words
-        .iter()
-        .fold(false, |open, word| !open && word & CS == 0)
+/// What a word behind a trace would meet, if the trace is accepted and it would meet anything.
+fn accepted_end(sheet: &Sheet, words: &[u32]) -> Option<&'static str> {
+    let mut past = Summary::fresh();
+    for &word in words {
+        if past.lowest(sheet, word).is_some() {
+            return None;
+        }
+        past.push(sheet, word);
+    }
+    match past.phase() {
+        Phase::Standby => None,
+        Phase::Open(_) => Some("a pair open"),
+        Phase::PowerDown => Some("PD low"),
+        Phase::WakeUp => Some("a wake-up word due"),
+    }
 }

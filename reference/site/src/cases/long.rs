@@ -30,6 +30,10 @@ pub fn promised() -> Vec<String> {
         "24 on four banks, one word more",
         "accepted, two reads at the end",
         "breach 7 at the last word",
+        "accepted, with sleeps",
+        "accepted, PD low from the first word to the last",
+        "breach 13 at the last word",
+        "breach 2 at the last word, PD low again",
     ]
     .map(name)
     .to_vec();
@@ -95,6 +99,23 @@ pub fn cases(run: &mut Run, _scale: u32) {
     let mixed = load::mixed(&random, &SHEET_E, WORDS);
     Long::new(SHEET_E, &mixed).compare(run, BYTES, 0, "accepted");
     four_banks(run, &random);
+    sleeping(run, &random);
+}
+
+/// A trace with sleeps, and one that is a single sleep, which ends in some way.
+fn sleeping(run: &mut Run, random: &Random) {
+    let words = load::sleeping(random, &SHEET_E_OF_FOUR, WORDS);
+    let trace = Long::new(SHEET_E_OF_FOUR, &words);
+    trace.compare(run, BYTES, 0, "accepted, with sleeps");
+    let mut trace = Long::new(SHEET_E_OF_FOUR, &vec![CS; WORDS]);
+    let what = "accepted, PD low from the first word to the last";
+    trace.compare(run, BYTES, 0, what);
+    trace.set(LAST - 1, DESL);
+    trace.set(LAST, PD);
+    trace.compare(run, BYTES, LAST * 64 + 13, "breach 13 at the last word");
+    trace.set(LAST, CS);
+    let what = "breach 2 at the last word, PD low again";
+    trace.compare(run, BYTES, LAST * 64 + 2, what);
 }
 
 /// A trace on four banks, on another sheet than E.

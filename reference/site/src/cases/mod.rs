@@ -8,7 +8,7 @@ mod traces;
 use crate::call::Form;
 use crate::run::Run;
 use reference::suites::sheets::{promised_order, REFUSALS};
-use reference::suites::{ba2, near, pool};
+use reference::suites::{ba2, near, pool, power_down};
 use reference::wiring;
 
 /// A section: its name and its cases.
@@ -25,7 +25,7 @@ pub const SECTIONS: [Section; 5] = [
 
 /// Every answer of each of the two calls with each wiring that it can be given.
 fn promised_answers() -> Vec<String> {
-    let mut answers: Vec<String> = (1..=12).map(|n| format!("breach {n}")).collect();
+    let mut answers: Vec<String> = (1..=13).map(|n| format!("breach {n}")).collect();
     answers.push("accepted".to_string());
     answers.extend([20, 21, 22, 24, 29, 33].map(|n| format!("refused {n}")));
     let mut promised = Vec::new();
@@ -60,12 +60,15 @@ pub fn promised() -> Vec<String> {
         "numbers with other upper halves",
         "calls from two threads at once",
         "accepted with a pair open at the end",
+        "accepted with PD low at the end",
+        "accepted with a wake-up word due at the end",
         "0 to 70 bytes at every address",
     ];
     promised.extend(others.map(str::to_string));
     promised.extend(near::promised());
     for sheet in pool::parts() {
         promised.extend(ba2::promised(sheet.bl, sheet.wiring));
+        promised.extend(power_down::promised(sheet.wiring));
     }
     promised.extend(long::promised());
     promised

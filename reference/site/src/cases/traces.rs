@@ -3,11 +3,12 @@
 use crate::call::Form;
 use crate::run::{fail, Run};
 use reference::both::Both;
+use reference::coverage::Coverage;
 use reference::hand_in::site_number;
 use reference::random::Random;
 use reference::script::bytes;
 use reference::sheet::Sheet;
-use reference::suites::{ba2, long, near, pool};
+use reference::suites::{ba2, load, long, near, pool, power_down};
 use std::thread;
 
 pub fn cases(run: &mut Run, scale: u32) {
@@ -27,9 +28,9 @@ pub fn cases(run: &mut Run, scale: u32) {
     }
     for sheet in pool::parts() {
         let mut coverage = std::mem::take(&mut run.coverage);
-        ba2::each(&random, &sheet, &mut coverage, &mut |_, words| {
-            judged(run, &random, &sheet, words)
-        });
+        let mut judged = |_: &mut Coverage, words: &[u32]| judged(run, &random, &sheet, words);
+        ba2::each(&random, &sheet, &mut coverage, &mut judged);
+        power_down::each(&random, &sheet, &mut coverage, &mut judged);
         run.coverage.add(coverage);
     }
     for _ in 0..4_000 * scale {
@@ -53,10 +54,13 @@ fn judged(run: &mut Run, random: &Random, sheet: &Sheet, words: &[u32]) {
     }
 }
 
-/// A trace of thousands of pairs, then the same damaged in some place.
+/// A trace of thousands of pairs, or one with sleeps between them, then the same damaged in some place.
 fn dense(run: &mut Run, random: &Random) {
     let sheet = long::quick_sheet(random);
-    let words = long::dense_words(random, &sheet, 8_000);
+    let words = match random.once_in(2) {
+        true => long::dense_words(random, &sheet, 8_000),
+        false => load::sleeping(random, &sheet, 8_000),
+    };
     run.short(&sheet, &bytes(&words));
     for _ in 0..8 {
         let mut damaged = words.clone();

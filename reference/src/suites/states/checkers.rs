@@ -4,32 +4,36 @@ use super::forge::{
     around, bare_checker, damage, delay_events, put_events, put_refs, rewire, some_clock,
     spoil_sheet, CLOCKS,
 };
+use super::lows;
+use super::phases::{some_first, ASLEEP, PAIR_OPEN, PHASES, STANDBY, WAKE_UP_DUE};
 use super::run::CheckerRun;
 use crate::both::Both;
 use crate::checker::Checker;
 use crate::coverage::Coverage;
 use crate::judge::LONGEST;
+use crate::phase::Phase;
 use crate::random::Random;
 use crate::script::{Call, Packer};
 use crate::sheet::Sheet;
-use crate::state::{self, CheckerNumbers, BREACH, CLOCK, EVENT, OPEN};
+use crate::state::{self, CheckerNumbers, BREACH, CLOCK, EVENT};
+use crate::suites::sleep::{desl_word, low_word};
 use crate::suites::{checker, near, pool, trace};
 use crate::summary::EVENTS;
-use crate::word::{CS, DESL, FN, PD};
+use crate::word::{CS, DESL, PD};
 
 /// The longest trace that a walk is made over; eight times D, and some clocks, are in it.
 const WALKED: u32 = 8_400;
 
-/// Every ground alone and its edges: each event at and around each clock, with and without an open
-/// pair; then the same beside a recorded breach, and on a sheet that is refused.
+/// Every ground alone and its edges: each event at and around each clock, whatever the next word meets;
+/// then the same beside a recorded breach, and on a sheet that is refused.
 pub fn edges(random: &Random, packer: &mut Packer, coverage: &mut Coverage) {
     for clock in CLOCKS {
-        for first in [DESL, PD, PD | FN, 0, u32::MAX] {
-            let bare = bare_checker(&pool::sheet(random), clock, first);
-            beside(random, packer, coverage, bare);
+        for phase in [STANDBY, PAIR_OPEN, PAIR_OPEN, ASLEEP, WAKE_UP_DUE] {
+            let bare = || bare_checker(&pool::sheet(random), clock, some_first(random, phase));
+            beside(random, packer, coverage, bare());
             for event in EVENT..EVENT + EVENTS {
                 for value in around(clock) {
-                    let mut numbers = bare_checker(&pool::sheet(random), clock, first);
+                    let mut numbers = bare();
                     numbers[event] = value;
                     beside(random, packer, coverage, numbers);
                 }
@@ -64,8 +68,9 @@ fn put_breach(random: &Random, numbers: &mut CheckerNumbers) {
 pub fn refreshes(random: &Random, packer: &mut Packer, coverage: &mut Coverage) {
     for m in 1..=8 {
         for (late, gap) in [(0, false), (1, false), (0, m > 1), (1, m > 1)] {
-            for first in [DESL, DESL, DESL, PD, PD | FN] {
+            for phase in [STANDBY, STANDBY, ASLEEP, WAKE_UP_DUE, PAIR_OPEN] {
                 let sheet = pool::sheet(random);
+                let first = some_first(random, phase);
                 let before = m * sheet.d() + late;
                 let early = before + random.between(1, 60);
                 let clock = random.pick(&[early, early, early, LONGEST - 1]);
@@ -80,13 +85,29 @@ pub fn refreshes(random: &Random, packer: &mut Packer, coverage: &mut Coverage) 
     }
 }
 
+/// States in which PD may go low, or may not, and a word with PD low.
+pub fn lows(random: &Random, packer: &mut Packer, coverage: &mut Coverage) {
+    for numbers in lows::states(random) {
+        let sheet = state::checker(&numbers).sheet;
+        let config = pool::config(random, &pool::sheet(random));
+        let mut run = CheckerRun::put(coverage, config, vec![], &numbers);
+        match random.once_in(2) {
+            true => run.advance(walked(random, numbers[CLOCK], low_word(random))),
+            false => run.step(low_word(random)),
+        }
+        run.step(some_word(random, &sheet, run.phase()));
+        run.send(packer);
+    }
+}
+
 /// A state at random, with events near the edges of the rules, seldom with a fault.
 pub fn forged(random: &Random, packer: &mut Packer, coverage: &mut Coverage) {
     let sheet = pool::sheet(random);
     let kind = trace::some_kind(random);
     let operation = pool::operation(random, &sheet, kind, random.below(8));
     let (first, _) = pool::noisy(random, &sheet, kind, &operation);
-    let first = random.pick(&[first, first, first | CS, random.bits()]);
+    let other = some_first(random, random.pick(&PHASES));
+    let first = random.pick(&[first, first, other, random.bits()]);
     let mut numbers = bare_checker(&sheet, some_clock(random), first);
     put_events(random, &sheet, &mut numbers);
     match random.below(12) {
@@ -120,8 +141,8 @@ pub fn near_real(random: &Random, packer: &mut Packer, coverage: &mut Coverage) 
     trial(random, packer, coverage, before, &numbers);
 }
 
-/// A word that may close the pair that is open, or may open one.
-fn some_word(random: &Random, sheet: &Sheet, first: u32) -> u32 {
+/// A word that may close the pair that is open, or may open one, go low, stay so or wake up.
+fn some_word(random: &Random, sheet: &Sheet, phase: Phase) -> u32 {
     let fit = match sheet.refusal() {
         None => *sheet,
         Some(_) => pool::sheet(random),
@@ -129,11 +150,17 @@ fn some_word(random: &Random, sheet: &Sheet, first: u32) -> u32 {
     let kind = trace::some_kind(random);
     let operation = pool::operation(random, &fit, kind, random.below(8));
     let (opening, closing) = pool::noisy(random, &fit, kind, &operation);
-    let likely = if first & CS == 0 { closing } else { opening };
+    let likely = match phase {
+        Phase::Open(_) => closing,
+        Phase::Standby => random.pick(&[opening, low_word(random)]),
+        Phase::PowerDown | Phase::WakeUp => {
+            random.pick(&[opening, low_word(random), desl_word(random)])
+        }
+    };
     match random.below(16) {
         0 => random.pick(&[0, u32::MAX, PD, DESL | 1 << 20]),
         1 => random.bits(),
-        2 => DESL,
+        2 => random.pick(&[DESL, likely & !PD, likely & !CS]),
         _ => likely,
     }
 }
@@ -162,15 +189,15 @@ fn trial(
     let sheet = state::checker(numbers).sheet;
     let config = pool::config(random, &pool::sheet(random));
     let mut run = CheckerRun::put(coverage, config, before, numbers);
-    let word = || some_word(random, &sheet, numbers[OPEN]);
+    let word = |run: &CheckerRun| some_word(random, &sheet, run.phase());
     let walk_first = random.once_in(2);
     if walk_first {
-        run.advance(walked(random, numbers[CLOCK], word()));
+        run.advance(walked(random, numbers[CLOCK], word(&run)));
     }
-    run.step(word());
+    run.step(word(&run));
     if !walk_first {
-        run.advance(walked(random, run.clock(), word()));
+        run.advance(walked(random, run.clock(), word(&run)));
     }
-    run.step(word());
+    run.step(word(&run));
     run.send(packer);
 }

@@ -95,7 +95,9 @@ pub fn some_clock(random: &Random) -> u32 {
 
 /// The clock of an event: never, or before the state's by about one of the spacings.
 fn some_event(random: &Random, sheet: &Sheet, clock: u32) -> u32 {
-    let spacings = [sheet.rc(), sheet.rwd, sheet.wrd, sheet.rsc, sheet.refc];
+    let data = [sheet.cl + sheet.bl / 2, sheet.wl() + 2].map(|clocks| clocks - 1);
+    let counts = [sheet.rc(), sheet.rwd, sheet.wrd, sheet.rsc, sheet.refc];
+    let spacings = [&counts[..], &data].concat();
     let long = [200, sheet.d() - sheet.rc(), sheet.d(), sheet.w()];
     let before = match random.below(7) {
         0 | 1 => return 0,

@@ -5,18 +5,21 @@ mod checkers;
 mod controllers;
 mod forge;
 mod limit;
+mod lows;
 mod meet;
+mod phases;
 mod run;
 
-use super::{by_wiring, names, refusals};
+use super::{by_wiring, names, pool, refusals, tally};
 use crate::coverage::Coverage;
 use crate::ground::{Ground, LATE_CLOCK, NO_REQUEST, OPEN_AT_0, TOO_MANY};
+use crate::ground::{ASLEEP_AT_0, WAKE_UP_AT_0, WAKE_UP_AT_1};
 use crate::pair::Request;
 use crate::random::Random;
 use crate::script::{bytes, Call, Packer};
 use crate::state::{CHECKER, CONTROLLER, OPEN};
 use crate::summary::NAMES;
-use crate::word::{DESL, FN, PD};
+use crate::word::DESL;
 
 /// What this suite must meet.
 pub fn promised() -> Vec<String> {
@@ -28,6 +31,8 @@ pub fn promised() -> Vec<String> {
     promised.extend(meet::promised_order("walk", &["19", "end", "23"]));
     for call in ["step", "walk"] {
         promised.extend(limit::promised_words(call));
+        promised.extend(phases::promised(call));
+        promised.extend(lows::promised(call));
     }
     promised.push("walk: end ahead of 24".to_string());
     for call in ["offer", "lent offer"] {
@@ -43,6 +48,7 @@ pub fn promised() -> Vec<String> {
     for state in ["checker", "controller"] {
         promised.extend(by_wiring(&forge::rewired_name(state)));
     }
+    promised.extend(tally::promised());
     promised.push("script refused".to_string());
     promised
 }
@@ -57,7 +63,7 @@ fn answers() -> Vec<String> {
         names(107, &["counts 0"]),
     ]
     .concat();
-    for number in 1..=12 {
+    for number in 1..=13 {
         let breach = format!("breach {number}");
         promised.extend(names(2, &[&breach]));
         promised.extend(names(108, &[&breach]));
@@ -81,15 +87,21 @@ fn answers() -> Vec<String> {
     promised
 }
 
+/// Every ground of 19 that either state can have.
+fn common_grounds() -> Vec<Ground> {
+    [&NAMES[..], &[LATE_CLOCK, OPEN_AT_0]].concat()
+}
+
 /// Every ground of 19 that a checker can have.
 fn checker_grounds() -> Vec<Ground> {
-    [&NAMES[..], &[LATE_CLOCK, OPEN_AT_0]].concat()
+    let further = [ASLEEP_AT_0, WAKE_UP_AT_0, WAKE_UP_AT_1];
+    [&common_grounds()[..], &further].concat()
 }
 
 /// Every ground of 19 that a controller can have.
 fn controller_grounds() -> Vec<Ground> {
     let further = [TOO_MANY, NO_REQUEST];
-    [&checker_grounds()[..], &Request::FIELDS, &further].concat()
+    [&common_grounds()[..], &Request::FIELDS, &further].concat()
 }
 
 /// All cases of the suite.
@@ -99,6 +111,7 @@ pub fn cases(seed: u64, scale: u32, packer: &mut Packer, coverage: &mut Coverage
     controllers::edges(&random, packer, coverage);
     for _ in 0..6 * scale {
         checkers::refreshes(&random, packer, coverage);
+        checkers::lows(&random, packer, coverage);
     }
     for _ in 0..24 * scale {
         controllers::refreshes(&random, packer, coverage);
@@ -111,16 +124,17 @@ pub fn cases(seed: u64, scale: u32, packer: &mut Packer, coverage: &mut Coverage
         checkers::near_real(&random, packer, coverage);
         controllers::near_real(&random, packer, coverage);
     }
-    tallies(&random, packer);
+    tallies(&random, packer, coverage);
     cut_short(packer);
 }
 
 /// Words at random, counted with the refusal's number beside the counts.
-fn tallies(random: &Random, packer: &mut Packer) {
+fn tallies(random: &Random, packer: &mut Packer, coverage: &mut Coverage) {
     for _ in 0..200 {
-        let word = || random.pick(&[DESL, PD, PD | FN, random.bits()]);
-        let words = (0..random.below(60)).map(|_| word()).collect();
-        packer.group(&[Call::CountAnyway(words)]);
+        let words = tally::some_words(random);
+        tally::count(coverage, &words);
+        let config = pool::config(random, &pool::sheet(random));
+        packer.group(&[config, Call::CountAnyway(words)]);
     }
 }
 

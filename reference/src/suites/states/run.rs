@@ -3,16 +3,19 @@
 
 use super::limit::{about_limit, NOT_OPENED, OPENED};
 use super::meet::{meet, meet_latest, of_state};
+use super::{lows, phases};
 use crate::both::Both;
-use crate::checker::Checker;
+use crate::checker::{Checker, Step};
 use crate::controller::Controller;
 use crate::coverage::Coverage;
 use crate::judge::LONGEST;
 use crate::pair::Request;
 use crate::past::Past;
+use crate::phase::Phase;
 use crate::queue::CAPACITY;
 use crate::script::{Call, Packer};
 use crate::state::{self, CheckerNumbers, ControllerNumbers};
+use crate::summary::Summary;
 use crate::walk::Walk;
 use crate::wiring;
 use crate::word::{BA2, DESL, FN, PD};
@@ -80,22 +83,42 @@ impl<'a> CheckerRun<'a> {
         }
     }
 
+    /// Counts the answer that a word got, and what the state before had to say to it.
+    fn count_answer(&mut self, call: &str, before: &Summary, word: u32, answer: Step) {
+        phases::count(self.coverage, call, before.phase(), answer);
+        if !matches!(answer, Step::Refused(_)) {
+            lows::count(self.coverage, call, &self.checker.sheet, before, word);
+        }
+    }
+
     /// Steps by a word.
     pub fn step(&mut self, word: u32) {
         self.count("step", false);
-        self.checker.step(word);
+        let before = *self.checker.past.summary();
+        let answer = self.checker.step(word);
+        self.count_answer("step", &before, word, answer);
         self.calls.push(Call::Step { count: 1, word });
         self.calls.push(Call::ShowChecker);
     }
 
     /// Advances a walk over the words that has reached the checker.
     pub fn advance(&mut self, words: Vec<u32>) {
-        self.count("walk", words.len() <= self.checker.past.clock() as usize);
+        let before = *self.checker.past.summary();
+        let next = words.get(before.clock() as usize);
+        self.count("walk", next.is_none());
         let mut walk = Walk::at(self.checker.clone(), &words);
-        walk.advance();
+        let moved = walk.advance();
         self.checker = walk.checker;
+        if let (Some(&word), Some(answer)) = (next, moved) {
+            self.count_answer("walk", &before, word, answer);
+        }
         self.calls.push(Call::Advance(words));
         self.calls.push(Call::ShowChecker);
+    }
+
+    /// What its next word meets.
+    pub fn phase(&self) -> Phase {
+        self.checker.past.phase()
     }
 
     /// The clock that it has reached.

@@ -1,8 +1,11 @@
 //! The fast path: of the history only the newest events are kept, one clock for each.
 //! Tests and comparison runs hold it against the whole history, up to some thousand pairs.
 
+mod power_down;
+
 use crate::pair::{self, Kind};
 use crate::past::Past;
+use crate::phase::Phase;
 use crate::sheet::Sheet;
 use crate::wiring;
 use crate::word;
@@ -32,7 +35,8 @@ const REFS: usize = 13;
 #[derive(Clone, Copy, Debug)]
 pub struct Summary {
     clock: u32,
-    /// The first word of the open pair; a word with CS high is none.
+    /// What the next word meets: the first word of the open pair, or a word with CS high that says what
+    /// else.
     first: u32,
     /// The clocks of the closing words; 0 is never, since no pair closes there.
     events: [u32; EVENTS],
@@ -48,7 +52,7 @@ impl Summary {
         }
     }
 
-    /// The word that stands for the open pair, or with CS high for none.
+    /// The number that says what the next word meets.
     pub fn first(&self) -> u32 {
         self.first
     }
@@ -56,11 +60,6 @@ impl Summary {
     /// The clocks of all events.
     pub fn events(&self) -> [u32; EVENTS] {
         self.events
-    }
-
-    /// The first word of the open pair, if one is open.
-    fn open(&self) -> Option<u32> {
-        Some(self.first).filter(|&first| !word::high(first, word::CS))
     }
 
     /// The clock of an event, if it stands.
@@ -175,34 +174,40 @@ impl Past for Summary {
         self.clock
     }
 
-    fn pair_open(&self) -> bool {
-        self.open().is_some()
+    fn phase(&self) -> Phase {
+        Phase::of(self.first)
     }
 
     fn lowest(&self, sheet: &Sheet, word: u32) -> Option<u32> {
         if word::stray_bit(word) {
             return Some(1);
         }
-        if !word::high(word, word::PD) {
+        if self.goes_low(word) && self.barred(sheet, word).next().is_some() {
             return Some(2);
         }
         let limit = self.refresh_limit(sheet);
         if limit.is_some_and(|limit| self.clock > limit) {
             return Some(3);
         }
-        let first = self.open()?;
-        self.closing(sheet, first, word)
+        match self.phase() {
+            Phase::Open(first) => self.closing(sheet, first, word),
+            Phase::Standby => None,
+            Phase::PowerDown | Phase::WakeUp => word::opens(word).then_some(13),
+        }
     }
 
     fn push(&mut self, sheet: &Sheet, word: u32) {
-        match self.open() {
-            Some(first) => {
+        let next = match self.phase() {
+            Phase::Open(first) => {
                 self.close(pair::kind(first, word), wiring::bank(sheet, first));
-                self.first = word::DESL;
+                Phase::Standby
             }
-            None if word::high(word, word::CS) => self.first = word::DESL,
-            None => self.first = word,
-        }
+            _ if !word::high(word, word::PD) => Phase::PowerDown,
+            _ if word::opens(word) => Phase::Open(word),
+            Phase::PowerDown => Phase::WakeUp,
+            _ => Phase::Standby,
+        };
+        self.first = next.number();
         self.clock += 1;
     }
 

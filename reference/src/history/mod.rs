@@ -1,7 +1,10 @@
 //! The whole history of closed pairs, and the rules judged by scanning it, as the paper's sentences go.
 
+mod power_down;
+
 use crate::pair::{self, Kind};
 use crate::past::Past;
+use crate::phase::Phase;
 use crate::sheet::Sheet;
 use crate::wiring;
 use crate::word;
@@ -21,26 +24,25 @@ pub struct Broken {
     pub part: &'static str,
 }
 
-/// The words before a clock: how many, the open first word if any, and all pairs closed.
+/// The words before a clock: how many, the open first word if any, all pairs closed, and the last word
+/// with PD low that belongs to no pair.
 #[derive(Clone, Debug)]
 pub struct History {
     pub clock: u32,
     pub open: Option<u32>,
     pub pairs: Vec<Closed>,
+    pub last_low: Option<u32>,
 }
 
 impl History {
     /// Every part of every rule that the word breaks at this clock, lowest number first.
     pub fn broken(&self, sheet: &Sheet, word: u32) -> Vec<Broken> {
         let mut found = Vec::new();
-        take(
-            &mut found,
-            [
-                (1, "high bit", word::stray_bit(word)),
-                (2, "PD low", !word::high(word, word::PD)),
-                (3, "D", self.overdue(sheet)),
-            ],
-        );
+        take(&mut found, [(1, "high bit", word::stray_bit(word))]);
+        if self.goes_low(word) {
+            take(&mut found, self.going_low_rules(sheet, word));
+        }
+        take(&mut found, [(3, "D", self.overdue(sheet))]);
         if let Some(first) = self.open {
             let closing = Closing {
                 pairs: &self.pairs,
@@ -55,6 +57,9 @@ impl History {
                 take(&mut found, closing.access_rules());
             }
             take(&mut found, closing.spacing_rules());
+        }
+        if self.clocks_since_low().is_some_and(|clocks| clocks < 3) {
+            take(&mut found, self.wake_up_rules(word));
         }
         found
     }
@@ -84,8 +89,11 @@ type Row = (u32, &'static str, bool);
 
 /// Adds those of the rows that are broken.
 fn take<const N: usize>(found: &mut Vec<Broken>, rows: [Row; N]) {
-    let broken = rows.into_iter().filter(|row| row.2);
-    found.extend(broken.map(|(number, part, _)| Broken { number, part }));
+    for (number, part, broken) in rows {
+        if broken {
+            found.push(Broken { number, part });
+        }
+    }
 }
 
 /// A pair that its second word would close at u + 1, and the pairs before it.
@@ -177,6 +185,7 @@ impl Past for History {
             clock: 0,
             open: None,
             pairs: Vec::new(),
+            last_low: None,
         }
     }
 
@@ -184,8 +193,13 @@ impl Past for History {
         self.clock
     }
 
-    fn pair_open(&self) -> bool {
-        self.open.is_some()
+    fn phase(&self) -> Phase {
+        match (self.open, self.clocks_since_low()) {
+            (Some(first), _) => Phase::Open(first),
+            (None, Some(1)) => Phase::PowerDown,
+            (None, Some(2)) => Phase::WakeUp,
+            (None, _) => Phase::Standby,
+        }
     }
 
     fn lowest(&self, sheet: &Sheet, word: u32) -> Option<u32> {
@@ -199,6 +213,7 @@ impl Past for History {
                 kind: pair::kind(first, word),
                 bank: wiring::bank(sheet, first),
             }),
+            None if !word::high(word, word::PD) => self.last_low = Some(self.clock),
             None if !word::high(word, word::CS) => self.open = Some(word),
             None => {}
         }
