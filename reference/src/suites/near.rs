@@ -142,14 +142,14 @@ pub fn round(
 pub fn near_words(random: &Random, coverage: &mut Coverage, sheet: Sheet, way: u32) -> Vec<u32> {
     let mut trace = Trace::new(sheet);
     if random.once_in(12) {
-        trace.nap(random, coverage);
+        trace.power_down(random, coverage);
     }
     trace.start_up(random, coverage);
     for _ in 0..random.pick(&[0, 1, 2, 5, 12]) {
         let kind = some_kind(random);
         trace.put_kind(random, kind, coverage);
         if random.once_in(5) {
-            trace.nap(random, coverage);
+            trace.power_down(random, coverage);
         }
         if random.once_in(6) {
             trace.idle_until(trace.clock() + random.below(6));

@@ -12,7 +12,7 @@ use crate::word::{high, CS, DESL, FN, PD};
 pub const BELOW_PD: u32 = PD - 1;
 
 /// A shorter sleep may have another word at each of its clocks.
-const RESTLESS: u32 = 12;
+const VARIED: u32 = 12;
 
 /// Where about a sleep a trace breaks a rule.
 const CLOCK_0: &str = "at clock 0";
@@ -76,9 +76,9 @@ impl Trace {
     /// PD stays low up to a clock, the other pins at random.
     pub fn stay_low(&mut self, random: &Random, clock: u32) {
         let steady = random.bits() & BELOW_PD;
-        let restless = clock < self.clock() + RESTLESS && random.once_in(2);
+        let varied = clock < self.clock() + VARIED && random.once_in(2);
         while self.clock() < clock {
-            self.word(match restless {
+            self.word(match varied {
                 true => random.bits() & BELOW_PD,
                 false => steady,
             });
@@ -98,7 +98,7 @@ impl Trace {
     }
 
     /// One sleep, or some with as few clocks between them as allowed.
-    pub fn nap(&mut self, random: &Random, coverage: &mut Coverage) {
+    pub fn power_down(&mut self, random: &Random, coverage: &mut Coverage) {
         for _ in 0..random.pick(&[1, 1, 1, 2, 3]) {
             if self.past.phase() == Phase::PowerDown {
                 self.word(desl_word(random));

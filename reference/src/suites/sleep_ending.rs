@@ -31,7 +31,7 @@ fn stray(random: &Random, once_in: u32) -> u32 {
 /// PD goes low one clock before it may, after a pair or another sleep.
 fn low_one_clock_early(trace: &mut Trace, random: &Random, coverage: &mut Coverage) {
     if random.once_in(4) {
-        trace.nap(random, coverage);
+        trace.power_down(random, coverage);
         trace.idle_until(trace.clock() + random.below(2));
     } else {
         trace.put_kind(random, some_kind(random), coverage);
@@ -101,7 +101,7 @@ fn wake_up(trace: &mut Trace, random: &Random, coverage: &mut Coverage) {
 /// before it.
 pub fn overdue(trace: &mut Trace, random: &Random, coverage: &mut Coverage) {
     let Some(limit) = trace.refresh_limit() else {
-        return trace.nap(random, coverage);
+        return trace.power_down(random, coverage);
     };
     match random.below(4) {
         0 => overdue_going_low(trace, random, limit),
