@@ -1,4 +1,6 @@
 // The rules as tests of what is kept of the past: rules 4 to 12 at a closing word, and all of them at any word.
+mod power_down;
+
 use basics::choose;
 use command::address::bank;
 use command::pins::CS;
@@ -7,6 +9,9 @@ use command::pins::high;
 use config::Timing;
 use early::deadline;
 use early::early_breach;
+pub use power_down::must_stay_high;
+use power_down::selected_at_exit;
+use power_down::wrongly_low;
 use stamps::Timestamps;
 ghost use mathlib.Core.Path.{_≡_};
 ghost use mathlib.Core.Bool.{true, false};
@@ -15,7 +20,7 @@ ghost use Prim.Native.Nat.{_+_};
 ghost use Rattle.rules.specs.Breaches.{near, notReady, tooClose, busy, closingBreach, wordBreach};
 
 // An event at this timestamp, if there was one, is less than so many clocks, and so many more, ago.
-fn near(clock: u32, stamp: u32, limit: u32, more: u32) -> bool
+pub(crate) fn near(clock: u32, stamp: u32, limit: u32, more: u32) -> bool
     ensures { λ r. ⌜ r ≡ near clock stamp (limit + more) ⌝ }
 {
     !(stamp == 0) & ((clock as u64) < stamp as u64 + (limit as u64 + more as u64))
@@ -111,14 +116,15 @@ fn closing_breach(timing: Timing, stamps: Timestamps, clock: u32, first: u32, se
     }
 }
 
-// The lowest breach number at a word, or 0, by any timestamps. `first` is the word of the open pair, or one with CS high where none is open.
+// The lowest breach number at a word, or 0, by any timestamps and what the word meets.
 pub fn word_breach(timing: Timing, stamps: Timestamps, clock: u32, first: u32, word: u32) -> u32
     ensures { λ r. ⌜ r ≡ wordBreach timing stamps clock first word ⌝ }
 {
     let figures = timing.figures();
     let refs = stamps.refs;
     let last = deadline(figures.refi, refs);
-    let early = early_breach(last, clock, word);
+    let low = wrongly_low(timing, stamps, clock, first, word);
+    let early = early_breach(low, last, clock, word);
     if early != 0 {
         return early;
     }
@@ -126,6 +132,6 @@ pub fn word_breach(timing: Timing, stamps: Timestamps, clock: u32, first: u32, w
     if opened {
         closing_breach(timing, stamps, clock, first, word)
     } else {
-        0
+        choose(selected_at_exit(first, word), 13, 0)
     }
 }

@@ -1,8 +1,8 @@
--- Words that breach nothing: one while no pair is open, a DESL word of a run, the LAL word of a read or write; and a run over what is
--- kept goes on past any number of them. Assumes nothing.
+-- Words that breach nothing: DESL, the two of a read or write, those of a sleep; and a run over what is kept goes on past any number of
+-- them. Assumes nothing.
 use Prim.Native.Nat.{ℕ, _+_, _/_, _^_, _≤_, _<_}
 use mathlib.Core.Path.{_≡_, refl, sym, _∙_, ap}
-use mathlib.Core.Bool.{true, false, not, cond, and-false}
+use mathlib.Core.Bool.{true, false, not, cond, _||_, and-false}
 use mathlib.Core.List.{List}
 use native.Mathlib.Omega.{arith}
 use borrow.Author.Tests.{le-ltb, lt-leb}
@@ -12,15 +12,15 @@ use Rattle.config.specs.declared.Timing.{Timing}
 use Rattle.command.specs.Pins.{high}
 use Rattle.command.specs.Pairs.{rda}
 use Rattle.command.specs.Address.{bankOf}
-use Rattle.stamps.specs.Stamps.{nextFirst}
-use Rattle.rules.specs.Breaches.{near, deadline, overdue, earlyBreach, closingBreach}
+use Rattle.stamps.specs.Stamps.{isPoweredDown, isExiting}
+use Rattle.rules.specs.Breaches.{near, deadline, overdue, mustStayHigh, earlyAt, closingBreach}
 use Rattle.rules.specs.Verdict.{Judgement}
 use Rattle.stamps.specs.declared.Timestamps.{Timestamps}
 use Rattle.breaches.proofs.ByKind.{at-lal}
 use Rattle.breaches.proofs.Sums.{no-more}
 use Rattle.rules.proofs.Words.{run, run-passes}
 use Rattle.bytecheck.specs.Passed.{Passes, Passed, none, more}
-use Rattle.bytecheck.specs.Quick.{Settled, Clear}
+use Rattle.bytecheck.specs.Quick.{Settled, Clear, Quiet}
 use Rattle.bytecheck.specs.declared.place.Place.{Place}
 use Rattle.bytecheck.specs.declared.quick.Recent.{Recent}
 
@@ -29,19 +29,27 @@ pub far : (k c n : ℕ) → c + n ≤ k → near k c n ≡ false
 far k c n h = rw (le-ltb k (c + n) h) (and-false (not (eqb c 0)))
 
 -- rules 1 to 3 are kept
-pub early-kept : (last k w : ℕ) → w / 2 ^ 19 ≡ 1 → overdue last k ≡ false → earlyBreach last k w ≡ 0
-early-kept last k w e due = rw (lt-leb (2 ^ 20) w (omega arith), e, due)
+pub early-kept : (t : Timing) (s : Timestamps) (k first w : ℕ) → w / 2 ^ 19 ≡ 1 → overdue (deadline (t .refi) (s .refs)) k ≡ false
+    → earlyAt t s k first w ≡ 0
+early-kept t s k first w e due = rw (lt-leb (2 ^ 20) w (omega arith), e, due)
 
 -- what rules 7 and 8 compare a pair of this bank with
 abbrev recentOf : Timestamps → ℕ → Recent
 recentOf s bank = record { bank = getD (s .banks) bank 0; read = s .read; write = s .write }
 
+-- a word with PD and CS high, and no bit above
+high-lal : (w : ℕ) → w / 2 ^ 18 ≡ 3 → high 18 w ≡ true
+high-lal w e = rw e
+
+driven : (w : ℕ) → w / 2 ^ 18 ≡ 3 → w / 2 ^ 19 ≡ 1
+driven w e = omega arith
+
 -- a LAL word that keeps rules 5, 7 and 8, where rules 6, 9 and 10 are kept
-lal-kept : (t : Timing) (s : Timestamps) (k first w : ℕ) {bank : ℕ} → bank ≡ bankOf (t .four) first → Settled t s k
-    → Clear t (recentOf s bank) k first w → closingBreach t s k first w ≡ 0
+lal-kept : (t : Timing) (s : Timestamps) (k first w : ℕ) {bank from : ℕ} → bank ≡ bankOf (t .four) first → Settled t s k
+    → Clear t (recentOf s bank) from k first w → closingBreach t s k first w ≡ 0
 lal-kept t s k first w of-bank settled clear =
     sym
-    (at-lal t s k first w (clear .isLal) (sym (clear .unreserved)) (sym (settled .ready))
+    (at-lal t s k first w (high-lal w (clear .driven)) (sym (clear .unreserved)) (sym (settled .ready))
     (rw (of-bank, ← no-more (t .rc)) at (sym (clear .rested)))
     (sym (clear .spaced))
     (rw (← no-more (t .rsc)) at (sym (settled .afterMode)))
@@ -66,38 +74,70 @@ accessed bank p read write =
           };
     }
 
--- the word at a place, where it keeps rules 1 to 3
+-- the word at a place
 module _ (t : Timing) (ws : List ℕ) (p : Place) {w : ℕ} (inside : p .clock < length ws) (word : w ≡ getD ws (p .clock) 0)
-    (early : earlyBreach (deadline (t .refi) (p .stamps .refs)) (p .clock) w ≡ 0) where
-  pub idle-passes : high 18 (p .first) ≡ true → {first₁ : ℕ} → first₁ ≡ nextFirst (p .first) w
-      → Passes t ws p (record { clock = p .clock + 1; first = first₁; stamps = p .stamps })
-  idle-passes idle opened =
+    (due : overdue (deadline (t .refi) (p .stamps .refs)) (p .clock) ≡ false) where
+  -- the place behind it, with the same timestamps
+  abbrev behind : ℕ → Place
+  behind first = record { clock = p .clock + 1; first = first; stamps = p .stamps }
+
+  -- the first word of a pair, where nothing is met
+  pub opening-passes : p .first ≡ 0xC0000 → w / 2 ^ 18 ≡ 2 → Passes t ws p (behind w)
+  opening-passes free e =
+      let pd : w / 2 ^ 19 ≡ 1 = omega arith in
+      record { inside = inside; sound = rw (← word, free, early-kept t (p .stamps) (p .clock) 0xC0000 w pd due); leads = rw (← word, free, pd, e) }
+
+  -- a word that goes low
+  pub low-passes : p .first ≡ 0xC0000 → w / 2 ^ 18 ≡ 1 → mustStayHigh t (p .stamps) (p .clock) ≡ false → Passes t ws p (behind 0x40000)
+  low-passes free e may =
+      let pd : w / 2 ^ 19 ≡ 0 = omega arith in
       record {
         inside = inside;
-        sound = rw (← word, early, idle);
-        leads = rw (opened, ← word, idle);
+        sound = rw (← word, free, lt-leb (2 ^ 20) w (omega arith), pd, e, may, due);
+        leads = rw (← word, free, pd);
       }
 
-  pub access-passes : high 18 (p .first) ≡ false → {bank : ℕ} → bank ≡ bankOf (t .four) (p .first) → Settled t (p .stamps) (p .clock)
-      → Clear t (recentOf (p .stamps) bank) (p .clock) (p .first) w
+  -- a wake-up word, the first and the second
+  pub exit-passes : high 18 (p .first) ≡ true → {first₁ : ℕ} → first₁ ≡ cond {A = ℕ} (isPoweredDown (p .first)) 0xE0000 0xC0000
+      → w / 2 ^ 18 ≡ 3 → Passes t ws p (behind first₁)
+  exit-passes no-pair next e =
+      record {
+        inside = inside;
+        sound =
+            rw (← word, early-kept t (p .stamps) (p .clock) (p .first) w (driven w e) due, driven w e, e, and-false (isPoweredDown (p .first) || isExiting (p .first)))
+            (rw no-pair);
+        leads = rw (← word, driven w e, e, next) (rw no-pair);
+      }
+
+  -- the LAL word of a read or write
+  pub access-passes : high 18 (p .first) ≡ false → {bank from : ℕ} → bank ≡ bankOf (t .four) (p .first) → Settled t (p .stamps) (p .clock)
+      → Clear t (recentOf (p .stamps) bank) from (p .clock) (p .first) w
       → {read write : ℕ} → read ≡ cond {A = ℕ} (rda (p .first)) (p .clock) (p .stamps .read)
       → write ≡ cond {A = ℕ} (rda (p .first)) (p .stamps .write) (p .clock) → Passes t ws p (accessed bank p read write)
   access-passes opened of-bank settled clear read write =
       record {
         inside = inside;
-        sound = rw (← word, early, opened, lal-kept t (p .stamps) (p .clock) (p .first) w of-bank settled clear);
-        leads = rw (of-bank, read, write, ← word, opened, clear .isLal);
+        sound = rw (← word, early-kept t (p .stamps) (p .clock) (p .first) w (driven w (clear .driven)) due, opened, lal-kept t (p .stamps) (p .clock) (p .first) w of-bank settled clear);
+        leads = rw (of-bank, read, write, ← word, opened, high-lal w (clear .driven));
       }
 
--- a DESL word that rule 3 allows
-pub desl-passes : (t : Timing) (s : Timestamps) (ws : List ℕ) (k first : ℕ) → first ≡ 0xC0000 → k < length ws
-    → overdue (deadline (t .refi) (s .refs)) k ≡ false → getD ws k 0 / 2 ^ 18 ≡ 3
+-- a DESL word where nothing is met, and one with PD low in sleep
+pub desl-quiet : Quiet 0xC0000 0xC0000 0x100000
+desl-quiet t s k w low high due =
+    let cs : w / 2 ^ 18 ≡ 3 = omega arith in
+    (rw (early-kept t s k 0xC0000 w (driven w cs) due), rw (cs, driven w cs))
+
+pub low-quiet : Quiet 0x40000 0 0x80000
+low-quiet t s k w low high due =
+    let pd : w / 2 ^ 19 ≡ 0 = omega arith in
+    (rw (lt-leb (2 ^ 20) w (omega arith), pd, due), rw pd)
+
+pub quiet-passes : {first least bound : ℕ} → Quiet first least bound → (t : Timing) (s : Timestamps) (ws : List ℕ) (k : ℕ) {w : ℕ}
+    → k < length ws → w ≡ getD ws k 0 → least ≤ w → w < bound → overdue (deadline (t .refi) (s .refs)) k ≡ false
     → Passes t ws (record { clock = k; first = first; stamps = s }) (record { clock = k + 1; first = first; stamps = s })
-desl-passes t s ws k first closed inside due e =
-    let w = getD ws k 0 in
-    rw closed
-    (idle-passes t ws (record { clock = k; first = 0xC0000; stamps = s }) inside refl
-    (early-kept (deadline (t .refi) (s .refs)) k w (omega arith) due) refl (rw e))
+quiet-passes quiet t s ws k {w} inside word low high due =
+    let here = quiet t s k w low high due in
+    record { inside = inside; sound = rw (← word) (here .0); leads = rw (← word) (here .1) }
 
 pub passed-on : {t : Timing} {ws : List ℕ} {p q r : Place} → Passed t ws p q → Passed t ws q r → Passed t ws p r
 passed-on before none = before

@@ -1,15 +1,16 @@
 -- What a quick look at a word goes by.
-use Prim.Native.Nat.{ℕ, _≤_, _<_}
+use Prim.Native.Nat.{ℕ, _+_, _/_, _^_, _≤_, _<_}
 use mathlib.Core.List.{List}
 use mathlib.Core.Path.{_≡_}
 use mathlib.Core.Bool.{true, false}
 use lib.ListN.{getD}
 use Rattle.config.specs.declared.Timing.{Timing}
-use Rattle.command.specs.Pairs.{rda, lal}
+use Rattle.command.specs.Pairs.{rda}
 use Rattle.reading.specs.Reading.{laneReserved}
-use Rattle.rules.specs.Breaches.{near, deadline, overdue, notReady, tooClose}
+use Rattle.rules.specs.Breaches.{near, deadline, overdue, notReady, tooClose, wordBreach}
 use Rattle.stamps.specs.declared.Timestamps.{Timestamps}
-use Rattle.bytecheck.specs.Passed.{Passed}
+use Rattle.bytecheck.specs.Passed.{next, Passed}
+use Rattle.bytecheck.specs.declared.place.Place.{Place}
 use Rattle.bytecheck.specs.declared.quick.Recent.{Recent}
 
 -- a read or write that closes at k breaches none of rules 6, 9 and 10
@@ -22,16 +23,39 @@ pub record Settled (t : Timing) (s : Timestamps) (k : ℕ) : Type 0 where
 abbrev pub SettledFrom : Timing → Timestamps → ℕ → Type 0
 SettledFrom t s from = (k : ℕ) → k ≤ 16777216 → from ≤ k → Settled t s k
 
--- the word at clock k is a LAL word, and keeps rules 5, 7 and 8
-pub record Clear (t : Timing) (recent : Recent) (k first word : ℕ) : Type 0 where
-  pub isLal : lal word ≡ true
+-- the word at clock k is a LAL word that keeps rules 1, 2, 5, 7 and 8, and not before the clock `settled`
+pub record Clear (t : Timing) (recent : Recent) (settled k first word : ℕ) : Type 0 where
+  pub driven : word / 2 ^ 18 ≡ 3
+  pub late : settled ≤ k
   pub unreserved : laneReserved t first word ≡ false
   pub rested : near k (recent .bank) (t .rc) ≡ false
   pub spaced : tooClose (rda first) true t (recent .read) (recent .write) k ≡ false
 
--- the words from clock k to j breach nothing and change nothing, whatever is kept of the past, if rule 3 is kept before `end`
-abbrev pub DeslPassed : ℕ → ℕ → List ℕ → ℕ → ℕ → Type 0
-DeslPassed first end words k j =
-    (t : Timing) (s : Timestamps)
-    → ((i : ℕ) → i < end → overdue (deadline (t .refi) (s .refs)) i ≡ false)
+-- rule 3 is kept before `end`
+abbrev pub InTime : Timing → Timestamps → ℕ → Type 0
+InTime t s end = (k : ℕ) → k < end → overdue (deadline (t .refi) (s .refs)) k ≡ false
+
+-- a word from `least` on and below `bound` breaches nothing and changes nothing, whatever is kept of the past, if rule 3 is kept there
+abbrev pub Quiet : ℕ → ℕ → ℕ → Type 0
+Quiet first least bound =
+    (t : Timing) (s : Timestamps) (k w : ℕ) → least ≤ w → w < bound → overdue (deadline (t .refi) (s .refs)) k ≡ false
+    → let p : Place = record { clock = k; first = first; stamps = s } in
+    (wordBreach t s k first w ≡ 0) × (record { clock = k + 1; first = first; stamps = s } ≡ next (t .four) p w)
+
+-- the words from clock k to j do, in every state in which such words do
+abbrev pub RunPassed : ℕ → ℕ → ℕ → List ℕ → ℕ → ℕ → Type 0
+RunPassed least bound end words k j =
+    (first : ℕ) → Quiet first least bound → (t : Timing) (s : Timestamps) → InTime t s end
     → Passed t words (record { clock = k; first = first; stamps = s }) (record { clock = j; first = first; stamps = s })
+
+-- the place at a clock where nothing is met
+abbrev pub idleAt : ℕ → Timestamps → Place
+idleAt k s = record { clock = k; first = 0xC0000; stamps = s }
+
+-- the words from clock k to j lead there again
+abbrev pub IdlePassed : Timing → Timestamps → ℕ → List ℕ → ℕ → ℕ → Type 0
+IdlePassed t s end words k j = InTime t s end → Passed t words (idleAt k s) (idleAt j s)
+
+-- they lead from asleep to asleep
+abbrev pub LowPassed : Timing → Timestamps → List ℕ → ℕ → ℕ → Type 0
+LowPassed t s words k j = Passed t words (record { clock = k; first = 0x40000; stamps = s }) (record { clock = j; first = 0x40000; stamps = s })

@@ -1,6 +1,8 @@
 // The whole check of a trace that is handed over as bytes.
 mod place;
 mod quick;
+mod runs;
+mod skim;
 
 use basics::LIMIT;
 use basics::Refusal;
@@ -11,7 +13,7 @@ use config::TimingAnswer;
 use place::Place;
 use protocol::Breach;
 use protocol::Verdict;
-use quick::skimmed;
+use skim::skimmed;
 ghost use mathlib.Core.Path.{_≡_};
 ghost use Prim.Native.Nat.{_≤_, _/_};
 ghost use lib.ListN.{length};

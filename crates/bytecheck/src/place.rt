@@ -9,7 +9,7 @@ ghost use Rattle.bytecheck.specs.Passed.{start, next};
 pub(crate) struct Place {
     // The clock of the next word.
     pub(crate) clock: u32,
-    // The first word of the open pair, or a word with CS high where none is open.
+    // What the next word meets, as one word.
     pub(crate) first: u32,
     pub(crate) stamps: Timestamps,
 }

@@ -37,13 +37,13 @@ verdictOf ps more = number (checkOf institute (words 0 ps more))
 abbrev pub verdictOn : List At → ℕ → ℕ
 verdictOn ps more = verdictOf (startUpPairs ++ ps) more
 
--- sheet E with another grade, period and wiring
-abbrev pub sheetWith : ℕ → ℕ → ℕ → Config
-sheetWith grade period wiring =
+-- sheet E with another CL, BL, grade, period and wiring
+abbrev pub sheetOf : ℕ → ℕ → ℕ → ℕ → ℕ → Config
+sheetOf cl bl grade period wiring =
     record {
       grade = grade;
-      cl = institute .cl;
-      bl = institute .bl;
+      cl = cl;
+      bl = bl;
       organisation = institute .organisation;
       period = record { 0 = period };
       rbd = institute .rbd;
@@ -53,6 +53,10 @@ sheetWith grade period wiring =
       refc = institute .refc;
       wiring = wiring;
     }
+
+-- with another grade, period and wiring alone
+abbrev pub sheetWith : ℕ → ℕ → ℕ → Config
+sheetWith grade period wiring = sheetOf (institute .cl) (institute .bl) grade period wiring
 
 -- the number of a refusal, or 0
 abbrev pub refusal : {A : Type 0} → Outcome A → ℕ

@@ -1,4 +1,5 @@
--- The paper's cases, the edges of rule 3, and the wiring, as one table.
+-- The paper's cases, the edges of rule 3, the wiring, and power down, as one table.
 pub mod CheckerCases
 pub mod WiringCases
+pub mod PowerDownCases
 pub mod Cases

@@ -3,9 +3,9 @@ use Prim.Native.Nat.{ℕ}
 use mathlib.Core.Bool.{Bool, not, _&&_}
 use Rattle.command.specs.Pins.{high}
 
--- CS is low: where no pair is open, the word opens one
-abbrev pub opens : ℕ → Bool
-opens first = not (high 18 first)
+-- CS is low: where no pair is open, a word with PD high then opens one (RULES 2.8)
+abbrev pub selected : ℕ → Bool
+selected w = not (high 18 w)
 
 -- FN is high: the first word of a pair is an RDA, and otherwise a WRA
 abbrev pub rda : ℕ → Bool

@@ -1,10 +1,11 @@
 -- Whether a state's clock agrees with what the state remembers (RULES 6.19).
 use Prim.Native.Nat.{ℕ}
-use mathlib.Core.Bool.{Bool, not, _&&_, _||_}
+use mathlib.Core.Bool.{Bool, cond, _&&_, _||_}
 use mathlib.Core.List.{List}
 use lib.ListN.{getD}
 use lib.Dec.{eqb, leb, ltb}
-use Rattle.command.specs.Pairs.{opens}
+use Rattle.command.specs.Pairs.{selected}
+use Rattle.stamps.specs.Stamps.{isPoweredDown, isExiting}
 use Rattle.stamps.specs.declared.Timestamps.{Timestamps}
 
 -- an event, if it is remembered, is before the clock
@@ -34,7 +35,11 @@ stampsBefore k s =
     && eightBefore k (s .banks)
     && eightBefore k (s .refs)
 
--- no refusal 19 (RULES 6.19): the clock is at most 16,777,216, every event that is remembered is before it, and at clock 0 no pair is
--- open. The first word of an open pair is an event too: it stands one clock back.
+-- how many words must stand before one that meets this: the first of an open pair, a low one, a low one and the first wake-up word
+abbrev pub wordsBefore : ℕ → ℕ
+wordsBefore first = cond (selected first) 1 (cond (isPoweredDown first) 1 (cond (isExiting first) 2 0))
+
+-- no refusal 19 (RULES 6.19): the clock is at most 16,777,216, every event that is remembered is before it, and there are as many
+-- words before it as what the next one meets asks for
 abbrev pub clockFits : ℕ → ℕ → Timestamps → Bool
-clockFits clock first s = leb clock 16777216 && stampsBefore clock s && not (eqb clock 0 && opens first)
+clockFits clock first s = leb clock 16777216 && stampsBefore clock s && leb (wordsBefore first) clock

@@ -1,10 +1,13 @@
 // Whether a state's clock agrees with what the state remembers: one ground of refusal 19 (RULES 6.19).
 use basics::LIMIT;
+use basics::choose;
 use command::pins::CS;
 use command::pins::high;
 use stamps::Timestamps;
+use stamps::is_exiting;
+use stamps::is_powered_down;
 ghost use mathlib.Core.Path.{_≡_};
-ghost use Rattle.consistency.specs.Consistency.{eightBefore, stampsBefore, clockFits};
+ghost use Rattle.consistency.specs.Consistency.{eightBefore, stampsBefore, wordsBefore, clockFits};
 
 fn eight_before(clock: u32, stamps: [u32; 8]) -> bool
     ensures { λ r. ⌜ r ≡ eightBefore clock stamps ⌝ }
@@ -36,10 +39,19 @@ fn stamps_before(clock: u32, stamps: Timestamps) -> bool
         & in_refs
 }
 
+// How many words must stand before one that meets this.
+fn words_before(first: u32) -> u32
+    ensures { λ r. ⌜ r ≡ wordsBefore first ⌝ }
+{
+    let exiting = choose(is_exiting(first), 2, 0);
+    let idle = choose(is_powered_down(first), 1, exiting);
+    choose(!high(first, CS), 1, idle)
+}
+
 // The clock is within its limit, and nothing that is remembered contradicts it (otherwise 19).
 pub fn clock_fits(clock: u32, first: u32, stamps: Timestamps) -> bool
     ensures { λ r. ⌜ r ≡ clockFits clock first stamps ⌝ }
 {
     let remembered = stamps_before(clock, stamps);
-    (clock <= LIMIT) & remembered & !((clock == 0) & !high(first, CS))
+    (clock <= LIMIT) & remembered & (words_before(first) <= clock)
 }

@@ -1,15 +1,14 @@
--- The counts of a trace (RULES 9.1), the paper's tally: words and pairs are told apart as for the rules (RULES 2.2), and nothing is
--- judged.
+-- The counts of a trace (RULES 9.1), the paper's tally: words and pairs are told apart as for the rules (RULES 2.2, 2.8), and nothing
+-- is judged.
 use Prim.Native.Nat.{ℕ, _+_}
-use mathlib.Core.Bool.{Bool, cond, not}
+use mathlib.Core.Bool.{Bool, cond, not, _||_}
 use mathlib.Core.List.{List, [], _∷_}
-use mathlib.Core.Option.{Option, none, some}
 use lib.ListN.{length}
 use lib.Dec.{leb}
 use Rattle.basics.specs.Numbers.{refusalNumber}
-use Rattle.command.specs.Pins.{level}
-use Rattle.command.specs.Pairs.{opens}
-use Rattle.rules.specs.History.{ClosedPair, Past, nothing, extend, pastFrom}
+use Rattle.command.specs.Pins.{high, level}
+use Rattle.command.specs.Pairs.{selected}
+use Rattle.rules.specs.History.{ClosedPair, Phase, pair, between, Past, nothing, extend, pastFrom}
 use Rattle.rules.specs.Rules.{wasRead, wasWrite, wasMode, wasRefresh}
 use Rattle.counts.specs.declared.CommandCounts.{CommandCounts}
 use Rattle.counts.specs.declared.CountsAnswer.{CountsAnswer}
@@ -20,15 +19,15 @@ abbrev pub count : (ClosedPair → Bool) → List ClosedPair → ℕ
 count f [] = 0
 count f (p ∷ ps) = level (f p) + count f ps
 
--- 1 for DESL, which is CS high where no pair is open (RULES 2.2)
-abbrev pub deslAt : Option ℕ → ℕ → ℕ
-deslAt none w = level (not (opens w))
-deslAt (some first) w = 0
+-- 1 for DESL, which is CS high where no pair is open (RULES 2.2); a word with PD low counts as one there, whatever its CS (RULES 2.8)
+abbrev pub deslAt : Phase → ℕ → ℕ
+deslAt (pair first) w = 0
+deslAt (between r) w = level (not (high 19 w) || not (selected w))
 
 -- the DESL words after a past
 abbrev pub deslsFrom : Past → List ℕ → ℕ
 deslsFrom p [] = 0
-deslsFrom p (w ∷ ws) = deslAt (p .opened) w + deslsFrom (extend p w) ws
+deslsFrom p (w ∷ ws) = deslAt (p .phase) w + deslsFrom (extend p w) ws
 
 -- the five counts
 abbrev pub countsOf : List ℕ → CommandCounts

@@ -1,19 +1,19 @@
 -- For private functions alone: one turn of the loop.
 use Prim.Native.Nat.{ℕ, _+_, _≤_}
-use mathlib.Core.Bool.{_&&_}
+use mathlib.Core.Bool.{not, _&&_, _||_}
 use Rattle.command.specs.Pins.{high, level}
-use Rattle.command.specs.Pairs.{opens, isRead, isWrite, isMode, isRefresh}
+use Rattle.command.specs.Pairs.{selected, isRead, isWrite, isMode, isRefresh}
 use Rattle.counts.specs.declared.CommandCounts.{CommandCounts}
 
--- what one word adds, given the first word of the open pair, or a word with CS high where none is open
+-- what one word adds, by what it meets
 abbrev pub counted : CommandCounts → ℕ → ℕ → CommandCounts
 counted c first w =
     record {
-      reads = c .reads + level (opens first && isRead first w);
-      writes = c .writes + level (opens first && isWrite first w);
-      modes = c .modes + level (opens first && isMode first w);
-      refreshes = c .refreshes + level (opens first && isRefresh first w);
-      desls = c .desls + level (high 18 first && high 18 w);
+      reads = c .reads + level (selected first && isRead first w);
+      writes = c .writes + level (selected first && isWrite first w);
+      modes = c .modes + level (selected first && isMode first w);
+      refreshes = c .refreshes + level (selected first && isRefresh first w);
+      desls = c .desls + level (high 18 first && (not (high 19 w) || high 18 w));
     }
 
 -- no count is above a number of words

@@ -2,6 +2,7 @@
 use basics::Refusal;
 use command::pins::CS;
 use command::pins::FN;
+use command::pins::PD;
 use command::pins::bit;
 use command::pins::high;
 use stamps::DESL;
@@ -12,7 +13,7 @@ ghost use lib.ListN.{length};
 ghost use Rattle.counts.specs.Counts.{countsOf, countingOutcome, countingOf};
 ghost use Rattle.counts.specs.Turn.{counted, Below};
 
-// How many reads, writes, modes and refreshes were closed, and how many words were DESL.
+// How many reads, writes, modes and refreshes were closed, and how many words were DESL or, outside of pairs, had PD low.
 pub struct CommandCounts {
     pub reads: u32,
     pub writes: u32,
@@ -35,7 +36,7 @@ const ZERO: CommandCounts = CommandCounts {
     desls: 0,
 };
 
-// What one word adds. `words` bounds the counts so far.
+// What one word adds, by what it meets: with PD low, where no pair is open, it counts as DESL. `words` bounds the counts so far.
 fn counted(counts: CommandCounts, words: usize, first: u32, word: u32) -> CommandCounts
     requires { ⌜ (words < 65536) × Below words counts ⌝ }
     ensures { λ r. ⌜ (r ≡ counted counts first word) × Below (words + 1) r ⌝ }
@@ -43,12 +44,13 @@ fn counted(counts: CommandCounts, words: usize, first: u32, word: u32) -> Comman
     let idle = high(first, CS);
     let rda = high(first, FN);
     let lal = high(word, CS);
+    let low = !high(word, PD);
     CommandCounts {
         reads: counts.reads + bit(!idle & (rda & lal)),
         writes: counts.writes + bit(!idle & (!rda & lal)),
         modes: counts.modes + bit(!idle & (rda & !lal)),
         refreshes: counts.refreshes + bit(!idle & (!rda & !lal)),
-        desls: counts.desls + bit(idle & lal),
+        desls: counts.desls + bit(idle & (low | lal)),
     }
 }
 

@@ -21,9 +21,9 @@ Never ws answer after = MovePromised (fresh institute) ws (record { progress = a
 abbrev pub passing : List ℕ
 passing = 0xC0000 ∷ []
 
--- a word that breaches there: PD low
+-- a word that breaches there: PD and CS low
 abbrev pub breaching : List ℕ
-breaching = 0x40000 ∷ []
+breaching = 0 ∷ []
 
 -- the theorem: of each, whatever it answers or leaves besides
 pub record Excluded : Type 0 where

@@ -1,6 +1,4 @@
 // Rules 1 to 3, which every word is held to.
-use command::pins::PD;
-use command::pins::high;
 ghost use mathlib.Core.Path.{_≡_};
 ghost use mathlib.Core.List.{[], _∷_};
 ghost use Rattle.rules.specs.Rules.{lowest};
@@ -35,10 +33,11 @@ pub fn deadline(refi: u32, refs: [u32; 8]) -> u64
     0
 }
 
-// The lowest of rules 1 to 3 that a word breaches, or 0. `last` is the last clock that rule 3 allows, or 0 where it allows any.
-pub fn early_breach(last: u64, clock: u32, word: u32) -> u32
-    ensures { λ r. ⌜ r ≡ earlyBreach last clock word ⌝ }
+// The lowest of rules 1 to 3 that a word breaches, or 0. `low` says whether it breaches rule 2, and `last` is the last clock that rule 3
+// allows, or 0 where it allows any.
+pub fn early_breach(low: bool, last: u64, clock: u32, word: u32) -> u32
+    ensures { λ r. ⌜ r ≡ earlyBreach low last clock word ⌝ }
 {
     let overdue = !(last == 0) & (last < clock as u64);
-    lowest_early(0x100000 <= word, !high(word, PD), overdue)
+    lowest_early(0x100000 <= word, low, overdue)
 }

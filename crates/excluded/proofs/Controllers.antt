@@ -4,7 +4,6 @@ use Prim.Native.Nat.{ℕ, zero, suc, _+_, _-_, _≤_, _<_}
 use mathlib.Core.Path.{_≡_, refl, sym, _∙_, ap}
 use mathlib.Core.Bool.{Bool, true, false, cond, false≢true}
 use mathlib.Core.List.{List, [], _∷_}
-use mathlib.Core.Option.{none}
 use native.Mathlib.Omega.{arith}
 use borrow.Author.Tests.{lt-ltb, ltb-true}
 use lib.ListN.{length, getD, replicate, length-append, List·getD-append}
@@ -16,7 +15,7 @@ use Rattle.basics.specs.declared.refusal.Refusal.the-variants.{ClockLimit, Fiel
 use Rattle.basics.proofs.Outcomes.{require-value, given-value, value-not, require-not, given-not}
 use Rattle.writing.specs.Writing.{requestFits}
 use Rattle.command.specs.declared.operation.Request.{Request}
-use Rattle.rules.specs.History.{ClosedPair, pastFrom}
+use Rattle.rules.specs.History.{ClosedPair, free, pastFrom}
 use Rattle.queue.specs.Queue.{vacant}
 use Rattle.scheduler.specs.Pairs.{isOpen}
 use Rattle.controller.specs.Steps.{held, callOutcome, stateFits, joined, offerIf, offerBy, offerOf, closing, starting, tickIf, tickBy, tickOf}
@@ -39,7 +38,7 @@ nothing-out t calls r a newer e empty late h =
     by false p = omega arith
 
 -- DESL closes no pair
-desls-close : (n k : ℕ) (ps : List ClosedPair) → pastFrom (record { clock = k; opened = none; pairs = ps }) (replicate n 0xC0000) .pairs ≡ ps
+desls-close : (n k : ℕ) (ps : List ClosedPair) → pastFrom (record { clock = k; phase = free; pairs = ps }) (replicate n 0xC0000) .pairs ≡ ps
 desls-close zero k ps = refl
 desls-close (suc n) k ps = desls-close n (k + 1) ps
 

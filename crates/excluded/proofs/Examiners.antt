@@ -2,7 +2,6 @@
 use Prim.Native.Nat.{ℕ, zero, suc, _+_, _/_, _%_}
 use mathlib.Core.Path.{_≡_, refl, sym, _∙_, ap}
 use mathlib.Core.List.{List, [], _∷_}
-use mathlib.Core.Option.{none}
 use native.Mathlib.Omega.{arith}
 use borrow.Author.Tests.{eqb-true, eqb-false}
 use lib.ListN.{length, replicate}
@@ -14,6 +13,7 @@ use Rattle.config.specs.declared.Timing.{Timing}
 use Rattle.basics.proofs.Outcomes.{refused-value, require-value, given-value}
 use Rattle.words.specs.Words.{wordsOf}
 use Rattle.rules.specs.Verdict.{Judgement, accepted, breach, judgeFrom, judge, checkOf, checkBytesOf}
+use Rattle.rules.specs.History.{free}
 use Rattle.rules.specs.Breaches.{wordBreach}
 use Rattle.consistency.specs.Consistency.{clockFits}
 use Rattle.protocol.specs.Steps.{Step, verdictOutcome, fresh, refusing, judged, stepBy, stepOf}
@@ -40,7 +40,7 @@ breach-accepted e = let z : _≡_ {A = ℕ} 0 1 = cc in omega arith
 accepted-breach : {k n : ℕ} → value accepted ≡ value (breach k n) → ⊥
 accepted-breach e = breach-accepted (sym e)
 
-desls-pass : (t : Timing) (n k : ℕ) → judgeFrom t (record { clock = k; opened = none; pairs = [] }) (replicate n 0xC0000) ≡ accepted
+desls-pass : (t : Timing) (n k : ℕ) → judgeFrom t (record { clock = k; phase = free; pairs = [] }) (replicate n 0xC0000) ≡ accepted
 desls-pass t zero k = refl
 desls-pass t (suc n) k = desls-pass t n (k + 1)
 
@@ -84,8 +84,8 @@ examiners =
       bytes-accept = λ c bytes e. breach-accepted (bytes-judge c (0 ∷ 0 ∷ 0 ∷ 0 ∷ bytes) e .1);
       step-accepts =
           λ s after.
-          no-step s after 0 Verdict.Accepted
-          (λ e _. step-case (λ r. r .outcome ≡ value accepted → ⊥) s 0 (λ n. refused-value) (λ t _. breach-accepted) e);
+          no-step s after 0x100000 Verdict.Accepted
+          (λ e _. step-case (λ r. r .outcome ≡ value accepted → ⊥) s 0x100000 (λ n. refused-value) (λ t _. breach-accepted) e);
       check-breaches =
           λ c n b e.
           let j = check-judges c (replicate n 0xC0000) e in

@@ -1,6 +1,6 @@
 -- A tally's contract is an equation of the counts, too long or not. Assumes nothing.
 use Prim.Native.Nat.{ℕ}
-use mathlib.Core.Path.{_≡_, ap}
+use mathlib.Core.Path.{_≡_, sym, _∙_, ap}
 use mathlib.Core.Bool.{Bool, true, false, cond}
 use mathlib.Core.List.{List}
 use native.Mathlib.Omega.{arith}
@@ -34,4 +34,5 @@ tallies =
           omega arith)
           (λ e. h (ap (λ k. count (k .counts)) e));
       read-not-counted = λ e. let z : _≡_ {A = ℕ} 0 1 = ap (λ k. k .counts .reads) e in omega arith;
+      low-word-opens = λ c one e. let z : _≡_ {A = ℕ} 1 0 = sym one ∙ ap (λ k. k .counts .refreshes) e in omega arith;
     }

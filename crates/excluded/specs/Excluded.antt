@@ -125,10 +125,11 @@ wrongModeBytes = 0x00 ∷ 0x00 ∷ 0x0A ∷ 0x00 ∷ 0x80 ∷ 0x00 ∷ 0x08 ∷ 
 
 -- wrong examiners
 pub record Examiners : Type 0 where
-  -- one that accepts everything: word 0 has PD low, so no trace that begins with it passes, and it passes at no state
+  -- one that accepts everything: word 0 goes low with CS low, so no trace that begins with it passes; a word with bit 20 set passes at
+  -- no state
   pub check-accepts : (c : Config) (ws : List ℕ) → NoCheck c (0 ∷ ws) Verdict.Accepted
   pub bytes-accept : (c : Config) (bytes : List ℕ) → NoCheckBytes c (0 ∷ 0 ∷ 0 ∷ 0 ∷ bytes) Verdict.Accepted
-  pub step-accepts : (s after : Checker) → NoStep s 0 Verdict.Accepted after
+  pub step-accepts : (s after : Checker) → NoStep s 0x100000 Verdict.Accepted after
   -- one that finds a breach in everything: DESL alone, none or any number of them, is in no breach
   pub check-breaches : (c : Config) (n : ℕ) (b : Breach) → NoCheck c (replicate n 0xC0000) (Verdict.InBreach b)
   pub bytes-breach : (c : Config) (bytes : List ℕ) (n : ℕ) (b : Breach) → wordsOf bytes ≡ replicate n 0xC0000
@@ -155,6 +156,8 @@ pub record Tallies : Type 0 where
       → NoTally ws (CountsAnswer.Refused why c)
   -- so one that counts nothing, where a read pair stands
   pub read-not-counted : NoTally (0xA0000 ∷ 0xC0000 ∷ []) (CountsAnswer.Counted noCounts)
+  -- one that lets a word with PD low open a pair: two words 0 are no refresh
+  pub low-word-opens : (c : CommandCounts) → c .refreshes ≡ 1 → NoTally (0 ∷ 0 ∷ []) (CountsAnswer.Counted c)
 
 -- no contract lets an advance over ws answer so and leave the checker `after`: not those of `next_word` and `advance_through`, and not
 -- that of `advance`, which promises the same of its checker

@@ -1,4 +1,4 @@
--- A verdict's clock is below the limit, and its number is one of twelve. Assumes nothing.
+-- A verdict's clock is below the limit, and its number is one of thirteen. Assumes nothing.
 use Prim.Native.Nat.{ℕ, zero, suc, _+_, _≤_, _/_, _%_}
 use mathlib.Core.Path.{_≡_, refl}
 use mathlib.Core.Bool.{Bool, true, false}
@@ -16,7 +16,6 @@ use Rattle.words.proofs.Listed.{words-length}
 use Rattle.rules.specs.History.{Past, nothing, extend}
 use Rattle.rules.specs.Rules.{lowest, rules, breachAt}
 use Rattle.rules.specs.Verdict.{Judgement, lead, judgeFrom, judge, checkBytesOf}
-use Rattle.rules.proofs.Words.{clock-is}
 use Rattle.fcram.specs.Range.{Small}
 
 lowest-bound : (n : ℕ) (bs : List Bool) → lowest n bs ≤ n + length bs
@@ -29,10 +28,9 @@ lowest-bound n (false ∷ bs) =
 judge-small : (t : Timing) (p : Past) (ws : List ℕ) → p .clock + length ws ≤ 16777216 → Small (value (judgeFrom t p ws))
 judge-small t p [] h = tt
 judge-small t p (w ∷ ws) h =
-    let one = clock-is (p .opened) p w in
     go (breachAt t p w) (lowest-bound 1 (map (λ rule. rule t p w) rules)) (judge-small t (extend p w) ws (omega arith))
   where
-    go : (n : ℕ) → n ≤ 13 → Small (value (judgeFrom t (extend p w) ws)) → Small (value (lead n (p .clock) (judgeFrom t (extend p w) ws)))
+    go : (n : ℕ) → n ≤ 14 → Small (value (judgeFrom t (extend p w) ws)) → Small (value (lead n (p .clock) (judgeFrom t (extend p w) ws)))
     go zero b rest = rest
     go (suc n) b rest = (omega arith, omega arith)
 

@@ -4,13 +4,12 @@ use Prim.Native.Nat.{ℕ, zero, suc, _+_, _-_}
 use mathlib.Core.Path.{_≡_, refl, sym, _∙_, ap, subst, subst⁻¹}
 use mathlib.Core.Bool.{Bool, true, false, cond, _&&_}
 use mathlib.Core.List.{List, [], _∷_, map}
-use mathlib.Core.Option.{Option, none, some}
 use native.Mathlib.Omega.{arith}
 use borrow.Author.Tests.{le-leb, ltb-false}
 use lib.ListN.{length, getD, drop}
 use lib.Dec.{leb, ltb}
 use Rattle.config.specs.declared.Timing.{Timing}
-use Rattle.rules.specs.History.{Past, nothing, extend, extendBy}
+use Rattle.rules.specs.History.{ClosedPair, Phase, pair, between, Past, nothing, nextPairs, extend}
 use Rattle.rules.specs.Rules.{closings, wasRefresh, rule1, rule2, rule3, rules, lowest, breachBy, breachAt}
 use Rattle.rules.specs.Verdict.{Judgement, accepted, breach, lead, judgeBy, judgeFrom}
 use Rattle.rules.proofs.Words.{Regular, regular-extend}
@@ -39,19 +38,19 @@ one-gap D k (j ∷ js) e g =
     let h = ltb-false D (k - j) (rw (le-leb 1 (suc (length js)) (omega arith)) at e) in
     (omega arith, g)
 
-gaps-extend : (D : ℕ) (o : Option ℕ) (p : Past) (w : ℕ) → Regular o (p .clock) (p .pairs)
-    → Gaps D (p .clock ∷ closings wasRefresh (p .pairs)) → Gaps D (closings wasRefresh (extendBy o p w .pairs))
-gaps-extend D none p w r g = gaps-behind D (p .clock) (closings wasRefresh (p .pairs)) g
-gaps-extend D (some first) p w r g = by (wasRefresh (record { start = p .clock - 1; first = first; second = w }))
+gaps-extend : (D : ℕ) (o : Phase) (k : ℕ) (ps : List ClosedPair) (w : ℕ) → Regular o k ps
+    → Gaps D (k ∷ closings wasRefresh ps) → Gaps D (closings wasRefresh (nextPairs o k w ps))
+gaps-extend D (between q) k ps w r g = gaps-behind D k (closings wasRefresh ps) g
+gaps-extend D (pair first) k ps w r g = by (wasRefresh (record { start = k - 1; first = first; second = w }))
   where
     refs : List ℕ
-    refs = closings wasRefresh (p .pairs)
+    refs = closings wasRefresh ps
 
-    by : (b : Bool) → Gaps D (cond b ((p .clock - 1 + 1) ∷ refs) refs)
+    by : (b : Bool) → Gaps D (cond b ((k - 1 + 1) ∷ refs) refs)
     by true =
         let h = r .0 in
         subst (λ k. Gaps D (k ∷ refs)) (omega arith) g
-    by false = gaps-behind D (p .clock) refs g
+    by false = gaps-behind D k refs g
 
 -- the former verdict is not breach 3
 abbrev NotThree : Judgement → Type 0
@@ -62,7 +61,7 @@ module _ (t : Timing) where
   abbrev Short : Past → Type 0
   Short p = Gaps (t .refi) (closings wasRefresh (p .pairs))
 
-  module _ (p : Past) (w : ℕ) (r : Regular (p .opened) (p .clock) (p .pairs)) (g : Short p) where
+  module _ (p : Past) (w : ℕ) (r : Regular (p .phase) (p .clock) (p .pairs)) (g : Short p) where
     gap : formerRule3 t p w ≡ false → Gaps (t .refi) (p .clock ∷ closings wasRefresh (p .pairs))
     gap f = one-gap (t .refi) (p .clock) (closings wasRefresh (p .pairs)) f g
 
@@ -74,13 +73,13 @@ module _ (t : Timing) where
     number = in-its-place (rule1 t p w) (rule2 t p w) (formerRule3 t p w) (rule3 t p w) others (λ f. short-gaps t p w (gap f))
 
     short-on : breachBy formerRules t p w ≡ 0 → Short (extend p w)
-    short-on e = gaps-extend (t .refi) (p .opened) p w r (gap (kept (rule1 t p w) (rule2 t p w) (formerRule3 t p w) others e))
+    short-on e = gaps-extend (t .refi) (p .phase) (p .clock) (p .pairs) w r (gap (kept (rule1 t p w) (rule2 t p w) (formerRule3 t p w) others e))
 
-  same-from : (p : Past) (ws : List ℕ) → Regular (p .opened) (p .clock) (p .pairs) → Short p → NotThree (judgeBy formerRules t p ws)
+  same-from : (p : Past) (ws : List ℕ) → Regular (p .phase) (p .clock) (p .pairs) → Short p → NotThree (judgeBy formerRules t p ws)
       → judgeFrom t p ws ≡ judgeBy formerRules t p ws
   same-from p [] r g h = refl
   same-from p (w ∷ ws) r g h =
-      by (λ g h. same-from (extend p w) ws (regular-extend (p .opened) p w r) g h) (breachBy formerRules t p w) refl h
+      by (λ g h. same-from (extend p w) ws (regular-extend (p .phase) (p .clock) (p .pairs) w r) g h) (breachBy formerRules t p w) refl h
     where
       rest : Judgement
       rest = judgeFrom t (extend p w) ws
@@ -94,7 +93,7 @@ module _ (t : Timing) where
       by on (suc n) e h = ap (λ n. lead n (p .clock) rest) (number p w r g (λ q. h (sym e ∙ q)) ∙ e)
 
   same : (words : List ℕ) → NotThree (formerJudge t words) → judgeFrom t nothing words ≡ formerJudge t words
-  same words h = same-from nothing words tt tt h
+  same words h = same-from nothing words (omega arith, tt) tt h
 
 pub still-passes : StillPasses
 still-passes =

@@ -4,7 +4,6 @@ use Prim.Native.Nat.{ℕ, _+_, _-_, _≤_}
 use mathlib.Core.Path.{_≡_}
 use mathlib.Core.Bool.{Bool, true, false, cond, _&&_, _||_}
 use mathlib.Core.List.{List, [], _∷_}
-use mathlib.Core.Option.{none, some}
 use mathlib.Core.Logic.{_⊎_, inl, inr, ⊎-elim}
 use native.Mathlib.Omega.{arith}
 use native.Mathlib.Nat.{le-refl}
@@ -16,7 +15,7 @@ use Rattle.writing.specs.Writing.{pairOf, requestFits}
 use Rattle.command.specs.declared.operation.Request.{Request}
 use Rattle.command.specs.declared.operation.Operation.the-variants.{Access}
 use Rattle.roundtrip.proofs.WrittenBack.{written-back}
-use Rattle.rules.specs.History.{ClosedPair}
+use Rattle.rules.specs.History.{ClosedPair, pair, free}
 use Rattle.command.specs.Address.{bankOf}
 use Rattle.rules.specs.Rules.{closings, wasRead, wasWrite, wasRegular, wasRefresh}
 use Rattle.rules.specs.Breaches.{notReady}
@@ -108,4 +107,4 @@ module _ (t : Timing) (f : Figures t) (ps : List ClosedPair) (k : ℕ) (n : Norm
         let w = sound-tests t first second (a .sound) in
         let before = ordered-mono k (k + 1 - 1) (omega arith) ps (n .ordered) in
         rw
-        (breach-is t none k ps first (n .ordered), sound-first t (summary (t .four) ps) k first second (in-time t f ps k n k (omega arith)) (a .sound), w .cs, breach-is t (some first) (k + 1) ps second (omega arith, before, rw (w .cs)), access-closes t (summary (t .four) ps) (k + 1) first second (in-time t f ps k n (k + 1) (le-refl (k + 1))) a)
+        (breach-is t free k ps first (omega arith, n .ordered), sound-first t (summary (t .four) ps) k first second (in-time t f ps k n k (omega arith)) (a .sound), w .pd₁, w .cs, breach-is t (pair first) (k + 1) ps second (omega arith, before, rw (w .cs)), access-closes t (summary (t .four) ps) (k + 1) first second (in-time t f ps k n (k + 1) (le-refl (k + 1))) a)

@@ -6,7 +6,8 @@ use mathlib.Core.Option.{Option, none, some}
 use lib.ListN.{length}
 use lib.Dec.{leb}
 use Rattle.config.specs.declared.Timing.{Timing}
-use Rattle.command.specs.Pairs.{opens}
+use Rattle.command.specs.Pins.{high}
+use Rattle.command.specs.Pairs.{selected}
 use Rattle.writing.specs.Writing.{pairOf, operationFits, requestFits}
 use Rattle.command.specs.declared.operation.Request.{Request}
 use Rattle.command.specs.declared.operation.Operation.{Operation}
@@ -55,8 +56,10 @@ candidate-due t p rs f =
     (start-up-due t rs (leb 1 (length (closings wasExtended ps))) (leb 1 (length (closings wasRegular ps))) (leb 2 (length (closings wasRefresh ps))))
     (refresh-due t rs (refreshDue t p) (oldestOf rs) (oldest-due t rs f))
 
--- the first word of an operation in range opens a pair
-pub fits-open : (t : Timing) (f : Figures t) (o : Operation) → operationFits t o ≡ true → opens (pairOf t o .first) ≡ true
+-- the first word of an operation in range has PD high, and opens a pair
+pub fits-open : (t : Timing) (f : Figures t) (o : Operation) → operationFits t o ≡ true
+    → (high 19 (pairOf t o .first) ≡ true) × (selected (pairOf t o .first) ≡ true)
 fits-open t f o h =
     let w = pairOf t o in
-    rw (sound-tests t (w .first) (w .second) (written-back t (f .bl) (f .cl) o h .0) .cs)
+    let sound = sound-tests t (w .first) (w .second) (written-back t (f .bl) (f .cl) o h .0) in
+    (sound .pd₁, rw (sound .cs))

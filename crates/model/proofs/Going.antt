@@ -11,13 +11,13 @@ use lib.ListN.{length, length-append}
 use lib.Dec.{eqb}
 use Rattle.config.specs.declared.Timing.{Timing}
 use Rattle.config.proofs.Bounds.{both}
-use Rattle.command.specs.Pairs.{opens, rda, lal}
+use Rattle.command.specs.Pairs.{selected, rda, lal}
 use Rattle.writing.specs.Writing.{pairOf, requestFits, operationFits}
 use Rattle.command.specs.declared.operation.Request.{Request}
 use Rattle.command.specs.declared.operation.Operation.{Operation}
 use Rattle.command.specs.declared.operation.Operation.the-variants.{Access, Regular, Extended, Refresh}
 use Rattle.roundtrip.proofs.WrittenBack.{written-back}
-use Rattle.rules.specs.History.{ClosedPair, Past, extend}
+use Rattle.rules.specs.History.{ClosedPair, pair, free, Past, extend}
 use Rattle.rules.specs.Rules.{wasAccess, breachAt}
 use Rattle.rules.proofs.Newest.{Ordered}
 use Rattle.rules.proofs.Summary.{summary}
@@ -77,7 +77,7 @@ module _ (t : Timing) (f : Figures t) where
   atRest k ps rs = record { past = idle k ps; opened = none; waiting = rs }
 
   abbrev pub half : ℕ → Operation → List ClosedPair → Past
-  half u o ps = record { clock = u + 1; opened = some (pairOf t o .first); pairs = ps }
+  half u o ps = record { clock = u + 1; phase = pair (pairOf t o .first); pairs = ps }
 
   abbrev pub inPair : ℕ → Operation → List ClosedPair → List Request → Course
   inPair u o ps rs = record { past = half u o ps; opened = some o; waiting = rs }
@@ -109,7 +109,7 @@ module _ (t : Timing) (f : Figures t) where
   phase-in-time ps k (settled done n) = in-time t f ps k n k (omega arith)
 
   desl-passes : (ps : List ClosedPair) (k : ℕ) → Ordered k ps → InTime t (summary (t .four) ps) k → breachAt t (idle k ps) 0xC0000 ≡ 0
-  desl-passes ps k o h = rw (breach-is t none k ps 0xC0000 o, h)
+  desl-passes ps k o h = rw (breach-is t free k ps 0xC0000 (omega arith, o), h)
 
   module _ (ps : List ClosedPair) (k : ℕ) (ord : Ordered k ps) (ph : Phase t f ps k) where
     -- no pair opens
@@ -159,14 +159,14 @@ module _ (t : Timing) (f : Figures t) where
     opens-pair o qs Bs fits pass n kept q =
         let w = pairOf t o in
         let h = opened o qs Bs q kept in
-        let opens = fits-open t f o fits in
+        let selected = fits-open t f o fits in
         let b = both (eqb (breachAt t (idle k ps) (w .first)) 0) (eqb (breachAt t (extend (idle k ps) (w .first)) (w .second)) 0) pass in
         let closing : breachAt t (extend (idle k ps) (w .first)) (w .second) ≡ 0 = eqb-true (breachAt t (extend (idle k ps) (w .first)) (w .second)) 0 (b .1) in
-        let is : extend (idle k ps) (w .first) ≡ half k o ps = rw opens in
+        let is : extend (idle k ps) (w .first) ≡ half k o ps = rw (selected .0, selected .1) in
         record {
           passes = eqb-true (breachAt t (idle k ps) (w .first)) 0 (b .0);
           left = h .left;
-          going = within ps k o qs (rw opens) ord fits (subst (λ p. breachAt t p (w .second) ≡ 0) is closing) n (h .queue);
+          going = within ps k o qs (rw (selected .0, selected .1)) ord fits (subst (λ p. breachAt t p (w .second) ≡ 0) is closing) n (h .queue);
           order = refl;
           met = λ all m. h .met (starts ps) all (subst (λ us. Met us all Bs) (append-nil (starts ps)) m);
         }

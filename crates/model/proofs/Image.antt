@@ -11,13 +11,14 @@ use lib.ListN.{length, getD, replicate}
 use lib.Dec.{eqb, leb}
 use Rattle.config.specs.declared.Config.{Config}
 use Rattle.config.specs.declared.Timing.{Timing}
-use Rattle.command.specs.Pairs.{opens}
+use Rattle.command.specs.Pins.{high}
+use Rattle.command.specs.Pairs.{selected}
 use Rattle.writing.specs.Writing.{pairOf}
 use Rattle.command.specs.declared.operation.Request.{Request}
 use Rattle.command.specs.declared.operation.Pair.{Pair}
 use Rattle.command.specs.declared.operation.Operation.{Operation}
 use Rattle.command.specs.declared.operation.Operation.the-variants.{Access, Regular as RegularMode, Extended as ExtendedMode, Refresh as Refreshing}
-use Rattle.rules.specs.History.{ClosedPair, Past, extend}
+use Rattle.rules.specs.History.{ClosedPair, pair, free, Past, extend}
 use Rattle.rules.specs.Rules.{closings, wasExtended, wasRegular, wasRefresh, breachAt}
 use Rattle.rules.proofs.Closings.{closings-past0, nonzero, counted, oldest-counted}
 use Rattle.rules.proofs.Newest.{Ordered}
@@ -129,14 +130,14 @@ module _ (t : Timing) (ps : List ClosedPair) (k : ℕ) where
       go true false false false (r ∷ rs) = rw (nonzero (suc (length rs)) (omega arith))
 
   -- the look-ahead
-  passes-is : (w : Pair) → Ordered k ps → opens (w .first) ≡ true → passes t (summary (t .four) ps) k w ≡ breachless t (idle k ps) w
+  passes-is : (w : Pair) → Ordered k ps → (high 19 (w .first) ≡ true) × (selected (w .first) ≡ true) → passes t (summary (t .four) ps) k w ≡ breachless t (idle k ps) w
   passes-is w o h =
       let before = ordered-mono k (k + 1 - 1) (omega arith) ps o in
-      let halfway : Past = record { clock = k + 1; opened = some (w .first); pairs = ps } in
-      let is : extend (idle k ps) (w .first) ≡ halfway = rw h in
+      let halfway : Past = record { clock = k + 1; phase = pair (w .first); pairs = ps } in
+      let is : extend (idle k ps) (w .first) ≡ halfway = rw (h .0, h .1) in
       sym
-      (ap₂ (λ m n. eqb m 0 && eqb n 0) (breach-is t none k ps (w .first) o)
-      (ap (λ p. breachAt t p (w .second)) is ∙ breach-is t (some (w .first)) (k + 1) ps (w .second) (omega arith, before, h)))
+      (ap₂ (λ m n. eqb m 0 && eqb n 0) (breach-is t free k ps (w .first) (omega arith, o))
+      (ap (λ p. breachAt t p (w .second)) is ∙ breach-is t (pair (w .first)) (k + 1) ps (w .second) (omega arith, before, h .1)))
 
   -- what opens
   pub opens-is : Figures t → (rs : List Request) (n : OpenPair) (x : Option Operation) → Ordered k ps → Due t rs x → operationIn n (front rs) ≡ x

@@ -4,13 +4,12 @@ use Prim.Native.Nat.{ℕ, _+_, _≤_, _<_}
 use mathlib.Core.Path.{_≡_, sym, _∙_}
 use mathlib.Core.Bool.{Bool, true, false, cond, not}
 use mathlib.Core.List.{List, _∷_}
-use mathlib.Core.Option.{none}
 use mathlib.Core.Logic.{_⊎_, inl, inr, ⊎-elim}
 use native.Mathlib.Omega.{arith}
 use native.Mathlib.Nat.{le-refl}
 use lib.ListN.{getD}
 use Rattle.config.specs.declared.Timing.{Timing}
-use Rattle.rules.specs.History.{ClosedPair, Past}
+use Rattle.rules.specs.History.{ClosedPair, free, Past}
 use Rattle.rules.specs.Rules.{closings, oldest, wasRead, wasWrite, wasMode, wasRegular, wasExtended, wasRefresh}
 use Rattle.rules.proofs.Newest.{Ordered, latest, latest-cons}
 use Rattle.rules.proofs.Summary.{summary}
@@ -65,7 +64,7 @@ latest-moved ps k p at g n G new old = rw (latest-cons g p ps) (by (g p))
 -- where the gaps up to k are short, no refresh is overdue there
 pub by-gaps : (t : Timing) (ps : List ClosedPair) (k : ℕ) → Gaps (t .refi) (k ∷ closings wasRefresh ps) → InTime t (summary (t .four) ps) k
 by-gaps t ps k g =
-    let p : Past = record { clock = k; opened = none; pairs = ps } in
+    let p : Past = record { clock = k; phase = free; pairs = ps } in
     sym (overdue-is t p 0) ∙ short-gaps t p 0 g
 
 module _ (t : Timing) (f : Figures t) (ps : List ClosedPair) (k : ℕ) (n : Normal t ps k) where

@@ -17,7 +17,7 @@ use Rattle.writing.specs.Writing.{pairOf, requestFits, operationFits}
 use Rattle.command.specs.declared.operation.Request.{Request}
 use Rattle.command.specs.declared.operation.Operation.{Operation}
 use Rattle.command.specs.declared.operation.Operation.the-variants.{Access, Regular as RegularMode, Extended as ExtendedMode, Refresh as Refreshing}
-use Rattle.rules.specs.History.{ClosedPair}
+use Rattle.rules.specs.History.{ClosedPair, free}
 use Rattle.stamps.specs.Stamps.{remembered}
 use Rattle.rules.proofs.Newest.{Ordered}
 use Rattle.rules.proofs.Summary.{summary, summary-step}
@@ -132,7 +132,7 @@ module _ (c : Config) (t : Timing) (is : timingOf c ≡ value t) (f : Figures t)
       → operationIn p (front (x .waiting)) ≡ x .opened → OfWaiting p (x .waiting) → stateFits t (image c t x p n) ≡ true
   state-fits x Bs p n g low room e h =
       rw
-      (fits (t .four) none (x .past .clock) (x .past .pairs) (ordered t f x Bs g) low, open-in p (front (x .waiting)), e, begun t f x Bs g, le-leb (length (x .waiting)) 16 (omega arith), take-append-seam (x .waiting) (replicate n vacant), all-in-range t f x Bs g, of-waiting-test p (x .waiting) h)
+      (fits (t .four) free (x .past .clock) (x .past .pairs) (omega arith, ordered t f x Bs g) low, open-in p (front (x .waiting)), e, begun t f x Bs g, le-leb (length (x .waiting)) 16 (omega arith), take-append-seam (x .waiting) (replicate n vacant), all-in-range t f x Bs g, of-waiting-test p (x .waiting) h)
 
   abbrev pub refusing : Controller → List Request → Request → Offer
   refusing s rs q =

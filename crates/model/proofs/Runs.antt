@@ -18,7 +18,7 @@ use Rattle.command.specs.declared.operation.Operation.{Operation}
 use Rattle.rules.specs.History.{Past, nothing, extend, pastFrom}
 use Rattle.rules.specs.Rules.{breachAt}
 use Rattle.rules.specs.Verdict.{Judgement, accepted, breach, lead, judgeFrom, judge}
-use Rattle.rules.proofs.Words.{past-append, clock-is}
+use Rattle.rules.proofs.Words.{past-append}
 use Rattle.model.specs.Laid as laid
 use Rattle.controller.specs.Steps.{held, offerOf}
 use Rattle.model.specs.Runs.{Call, offer, tick, Accepted, Run, called, Prescribed, followed, ifAccepted, requestsOf, runFrom, prescribedFrom}
@@ -80,7 +80,7 @@ module _ (c : Config) (t : Timing) (is : timingOf c ≡ value t) (f : Figures t)
       let g = tick-goes t f x (h .bounds) (h .going) in
       let ticks = tick-represents c t is f (r .controller) x (h .bounds) (h .represents) (h .going) (omega arith) in
       let longer = length-append (k .words) (a .word ∷ []) in
-      let one : a .after .past .clock ≡ x .past .clock + 1 = ap (λ p. p .clock) (tick-past t x) ∙ clock-is (x .past .opened) (x .past) (a .word) in
+      let one : a .after .past .clock ≡ x .past .clock + 1 = ap (λ p. p .clock) (tick-past t x) in
       subst⁻¹ (λ y. AsPrescribed (record { words = r .words ++ ifAccepted (y .outcome) (y .word); accepted = r .accepted; controller = y .after }) (record { words = k .words ++ (a .word ∷ []); course = a .after })) (ticks .tick)
       (record {
         words = ap (λ ws. ws ++ (a .word ∷ [])) (h .words);

@@ -16,7 +16,7 @@ use Rattle.writing.specs.Writing.{pairOf}
 use Rattle.command.specs.declared.operation.Operation.{Operation}
 use Rattle.command.specs.declared.operation.Operation.the-variants.{Access, Regular, Extended, Refresh}
 use Rattle.roundtrip.proofs.WrittenBack.{written-back}
-use Rattle.rules.specs.History.{ClosedPair, Past}
+use Rattle.rules.specs.History.{ClosedPair, pair, free, Past}
 use Rattle.rules.proofs.Summary.{summary}
 use Rattle.rules.proofs.Words.{breach-is}
 use Rattle.rules.proofs.Newest.{Ordered}
@@ -87,7 +87,7 @@ module _ (t : Timing) (f : Figures t) where
           let o : Ordered k (extended ∷ []) = (omega arith, tt) in
           let o₁ : Ordered (k + 1 - 1) (extended ∷ []) = (omega arith, tt) in
           rw
-          (breach-is t none k (extended ∷ []) 0xA0000 o, breach-is t (some 0xA0000) (k + 1) (extended ∷ []) mrs (omega arith, o₁, refl), mode-closes t (summary (t .four) (extended ∷ [])) (k + 1) 0xA0000 mrs refl (record { sound = written .0; closes = pins .closes; rda = refl; read = refl; write = refl; mode = inr (omega arith); refresh = inl refl }))
+          (breach-is t free k (extended ∷ []) 0xA0000 (omega arith, o), breach-is t (pair 0xA0000) (k + 1) (extended ∷ []) mrs (omega arith, o₁, refl), mode-closes t (summary (t .four) (extended ∷ [])) (k + 1) 0xA0000 mrs refl (record { sound = written .0; closes = pins .closes; rda = refl; read = refl; write = refl; mode = inr (omega arith); refresh = inl refl }))
 
   -- the two refreshes, after a regular mode that opened at g
   module _ (g : ℕ) (early : 2 ≤ g) (late : g ≤ t .rsc) where

@@ -18,7 +18,7 @@ use Rattle.command.specs.declared.operation.Request.{Request}
 use Rattle.command.specs.declared.operation.Operation.{Operation}
 use Rattle.command.specs.declared.operation.Operation.the-variants.{Access, Refresh}
 use Rattle.roundtrip.proofs.WrittenBack.{written-back}
-use Rattle.rules.specs.History.{ClosedPair, Past}
+use Rattle.rules.specs.History.{ClosedPair, pair, free, Past}
 use Rattle.rules.specs.Rules.{wasRead, wasWrite}
 use Rattle.rules.proofs.Newest.{Ordered, latest}
 use Rattle.rules.proofs.Summary.{summary}
@@ -35,15 +35,15 @@ abbrev pub pairAt : Timing → ℕ → Operation → ClosedPair
 pairAt t u o = record { start = u; first = pairOf t o .first; second = pairOf t o .second }
 
 abbrev pub idle : ℕ → List ClosedPair → Past
-idle k ps = record { clock = k; opened = none; pairs = ps }
+idle k ps = record { clock = k; phase = free; pairs = ps }
 
 -- a refresh that nothing holds back opens
 pub refresh-opens : (t : Timing) (ps : List ClosedPair) (k : ℕ) → Ordered k ps → InTime t (summary (t .four) ps) k → InTime t (summary (t .four) ps) (k + 1)
     → RefreshFree t (summary (t .four) ps) (k + 1) → breachless t (idle k ps) (pairOf t Refresh) ≡ true
-refresh-opens t ps k o now next free =
+refresh-opens t ps k o now next may =
     let before = ordered-mono k (k + 1 - 1) (omega arith) ps o in
     rw
-    (breach-is t none k ps 0x80000 o, breach-is t (some 0x80000) (k + 1) ps 0x80000 (omega arith, before, refl), refresh-first t (summary (t .four) ps) k now, refresh-closes t (summary (t .four) ps) (k + 1) next free)
+    (breach-is t free k ps 0x80000 (omega arith, o), breach-is t (pair 0x80000) (k + 1) ps 0x80000 (omega arith, before, refl), refresh-first t (summary (t .four) ps) k now, refresh-closes t (summary (t .four) ps) (k + 1) next may)
 
 -- a pair that reads as an access has LAL, and no other
 access-lal : (t : Timing) (f s : ℕ) → lal s ≡ isAccess (operationOf t f s)

@@ -1,19 +1,19 @@
 -- What is kept of a past is before its clock, so 19 has no ground. Assumes nothing.
 use Prim.Native.Nat.{ℕ, zero, suc, _+_, _-_, _≤_, _<_}
 use mathlib.Core.Path.{_≡_, refl}
-use mathlib.Core.Bool.{Bool, true, false, cond, or-true, and-false}
+use mathlib.Core.Bool.{Bool, true, false, cond, or-true}
 use mathlib.Core.List.{List, [], _∷_}
-use mathlib.Core.Option.{Option, none, some}
 use native.Mathlib.Omega.{arith}
 use native.Mathlib.Nat.{le-refl}
-use borrow.Author.Tests.{lt-ltb, le-leb, ne-eqb}
+use borrow.Author.Tests.{lt-ltb, le-leb}
 use lib.ListN.{getD}
-use Rattle.rules.specs.History.{ClosedPair}
+use Rattle.rules.specs.History.{ClosedPair, Rest, idle, poweredDown, exiting, Phase, pair, between}
 use Rattle.rules.specs.Rules.{closings, oldest, wasExtended, wasRegular, wasMode, wasRead, wasWrite, wasRefresh}
 use Rattle.rules.proofs.Newest.{Ordered, latest}
 use Rattle.rules.proofs.Summary.{summary, ofBank, eachBank}
-use Rattle.rules.proofs.Words.{firstOf, Regular, ordered-mono}
-use Rattle.consistency.specs.Consistency.{before, eightBefore, stampsBefore, clockFits}
+use Rattle.rules.specs.Kept.{firstOf}
+use Rattle.rules.proofs.Words.{behind, Regular, ordered-mono}
+use Rattle.consistency.specs.Consistency.{before, eightBefore, stampsBefore, wordsBefore, clockFits}
 
 -- a number is before the clock, or 0
 abbrev Before : ℕ → ℕ → Type 0
@@ -47,8 +47,13 @@ summary-before four k ps o =
     (oldest-before k (closings wasExtended ps) (at wasExtended), at wasRegular 0, at wasMode 0, at wasRead 0, at wasWrite 0, eight k (λ b. latest (ofBank four b) ps) (λ b. at (ofBank four b) 0), eight k (λ i. getD (closings wasRefresh ps) i 0) (at wasRefresh))
 
 -- a past that words have led to, within the limit, fits
-pub fits : (four : Bool) (o : Option ℕ) (k : ℕ) (ps : List ClosedPair) → Regular o k ps → k ≤ 16777216 → clockFits k (firstOf o) (summary four ps) ≡ true
-fits four none k ps r h = rw (le-leb k 16777216 h, summary-before four k ps r, and-false)
-fits four (some first) k ps r h =
+behind-is : (r : Rest) → wordsBefore (firstOf (between r)) ≡ behind r
+behind-is idle = refl
+behind-is poweredDown = refl
+behind-is exiting = refl
+
+pub fits : (four : Bool) (o : Phase) (k : ℕ) (ps : List ClosedPair) → Regular o k ps → k ≤ 16777216 → clockFits k (firstOf o) (summary four ps) ≡ true
+fits four (between q) k ps r h = rw (le-leb k 16777216 h, summary-before four k ps (r .1), behind-is q, le-leb (behind q) k (r .0))
+fits four (pair first) k ps r h =
     let e = r .0 in
-    rw (le-leb k 16777216 h, summary-before four k ps (ordered-mono (k - 1) k (omega arith) ps (r .1)), ne-eqb k 0 (λ q. omega arith))
+    rw (le-leb k 16777216 h, summary-before four k ps (ordered-mono (k - 1) k (omega arith) ps (r .1)), r .2, le-leb 1 k e)

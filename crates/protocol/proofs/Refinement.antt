@@ -1,9 +1,8 @@
 -- The theorem of specs/Refinement: every state on the way keeps the summary of a past that words have led to. Assumes nothing.
 use Prim.Native.Nat.{ℕ, zero, suc, _+_, _≤_, _<_}
-use mathlib.Core.Path.{_≡_, refl, sym, _∙_, ap, subst}
+use mathlib.Core.Path.{_≡_, refl, sym, _∙_, ap}
 use mathlib.Core.Bool.{Bool, true, false, cond, true≢false}
 use mathlib.Core.List.{List, [], _∷_}
-use mathlib.Core.Option.{Option, none}
 use native.Mathlib.Omega.{arith}
 use borrow.Author.Tests.{lt-ltb, eq-eqb, ne-eqb, ltb-true}
 use lib.ListN.{length}
@@ -14,7 +13,7 @@ use Rattle.config.specs.declared.Config.{Config}
 use Rattle.config.specs.declared.Timing.{Timing}
 use Rattle.basics.proofs.Outcomes.{refused-value, same-number, refused-by}
 use Rattle.config.proofs.Accepted.{wired, config-19}
-use Rattle.rules.specs.History.{ClosedPair, Past, extendBy}
+use Rattle.rules.specs.History.{ClosedPair, idle, Phase, between, nextPhase, nextPairs}
 use Rattle.rules.specs.Verdict.{accepted, breach, judge}
 use Rattle.stamps.specs.Stamps.{nextStamps, nextFirst}
 use Rattle.rules.specs.Breaches.{wordBreach}
@@ -24,7 +23,8 @@ use Rattle.protocol.specs.Refinement.{stepping, afterAll, Refinement}
 use Rattle.stamps.specs.declared.Timestamps.{Timestamps}
 use Rattle.protocol.specs.declared.checker.Checker.{Checker}
 use Rattle.rules.proofs.Summary.{summary}
-use Rattle.rules.proofs.Words.{firstOf, Regular, regular-extend, stamps-is, first-is, clock-is, run, run-is}
+use Rattle.rules.specs.Kept.{firstOf}
+use Rattle.rules.proofs.Words.{Regular, regular-extend, stamps-is, first-is, run, run-is}
 use Rattle.protocol.proofs.Before.{fits}
 
 -- a state with no breach recorded
@@ -40,15 +40,12 @@ module _ (c : Config) (t : Timing) (e : timingOf c ≡ value t) where
     step-breaches : (n : ℕ) → wordBreach t s k first w ≡ suc n → stepOf (at c s k first) w .outcome ≡ value (breach k (suc n))
     step-breaches n z = rw (e, f, lt-ltb k 16777216 h, z, ne-eqb (suc n) 0 (λ q. omega arith))
 
-  stepping-is : (o : Option ℕ) (k : ℕ) (ps : List ClosedPair) (ws : List ℕ) → Regular o k ps → k + length ws ≤ 16777216
+  stepping-is : (o : Phase) (k : ℕ) (ps : List ClosedPair) (ws : List ℕ) → Regular o k ps → k + length ws ≤ 16777216
       → stepping (at c (summary (t .four) ps) k (firstOf o)) ws ≡ value (run t (summary (t .four) ps) k (firstOf o) ws)
   stepping-is o k ps [] r h = refl
   stepping-is o k ps (w ∷ ws) r h =
-      let p : Past = record { clock = k; opened = o; pairs = ps } in
-      let q = extendBy o p w in
-      let one = clock-is o p w in
-      let ih = stepping-is (q .opened) (q .clock) (q .pairs) ws (regular-extend o p w r) (omega arith) in
-      go (wordBreach t (summary (t .four) ps) k (firstOf o) w) refl (rw (stamps-is (t .four) o p w r, one, first-is o p w r) at ih)
+      let ih = stepping-is (nextPhase o w) (k + 1) (nextPairs o k w ps) ws (regular-extend o k ps w r) (omega arith) in
+      go (wordBreach t (summary (t .four) ps) k (firstOf o) w) refl (rw (stamps-is (t .four) o k ps w r, first-is o k ps w r) at ih)
     where
       f : clockFits k (firstOf o) (summary (t .four) ps) ≡ true
       f = fits (t .four) o k ps r (omega arith)
@@ -61,33 +58,31 @@ module _ (c : Config) (t : Timing) (e : timingOf c ≡ value t) where
       go (suc n) z ih = rw (step-breaches (summary (t .four) ps) k (firstOf o) w f (omega arith) n z, z)
 
 verdict : (c : Config) (t : Timing) (ws : List ℕ) → timingOf c ≡ value t → length ws ≤ 16777216 → stepping (fresh c) ws ≡ value (judge t ws)
-verdict c t ws e h = stepping-is c t e none 0 [] ws tt (omega arith) ∙ ap value (sym (run-is t ws))
+verdict c t ws e h = stepping-is c t e (between idle) 0 [] ws (omega arith, tt) (omega arith) ∙ ap value (sym (run-is t ws))
 
 -- a clock, first word and timestamps that are those of such a past
 record OfPast (four : Bool) (k f : ℕ) (s : Timestamps) : Type 0 where
-  opened : Option ℕ
+  phase : Phase
   pairs : List ClosedPair
-  regular : Regular opened k pairs
+  regular : Regular phase k pairs
   limit : k ≤ 16777216
-  first : f ≡ firstOf opened
+  first : f ≡ firstOf phase
   stamps : s ≡ summary four pairs
 
 past-next : (four : Bool) (k f : ℕ) (s : Timestamps) (w : ℕ) → OfPast four k f s → k < 16777216
     → OfPast four (k + 1) (nextFirst f w) (nextStamps four s k f w)
 past-next four k f s w h l =
-    let p : Past = record { clock = k; opened = h .opened; pairs = h .pairs } in
-    let q = extendBy (h .opened) p w in
     record {
-      opened = q .opened;
-      pairs = q .pairs;
-      regular = subst (λ n. Regular (q .opened) n (q .pairs)) (clock-is (h .opened) p w) (regular-extend (h .opened) p w (h .regular));
+      phase = nextPhase (h .phase) w;
+      pairs = nextPairs (h .phase) k w (h .pairs);
+      regular = regular-extend (h .phase) k (h .pairs) w (h .regular);
       limit = omega arith;
-      first = rw (h .first) (sym (first-is (h .opened) p w (h .regular)));
-      stamps = rw (h .first, h .stamps) (sym (stamps-is four (h .opened) p w (h .regular)));
+      first = rw (h .first) (sym (first-is (h .phase) k (h .pairs) w (h .regular)));
+      stamps = rw (h .first, h .stamps) (sym (stamps-is four (h .phase) k (h .pairs) w (h .regular)));
     }
 
 past-fits : (four : Bool) (k f : ℕ) (s : Timestamps) → OfPast four k f s → clockFits k f s ≡ true
-past-fits four k f s h = rw (h .first, h .stamps) (fits four (h .opened) k (h .pairs) (h .regular) (h .limit))
+past-fits four k f s h = rw (h .first, h .stamps) (fits four (h .phase) k (h .pairs) (h .regular) (h .limit))
 
 -- of a state's own wiring
 abbrev four : Checker → Bool
@@ -140,7 +135,7 @@ never-19 c ws w =
     let s = afterAll (fresh c) ws in
     let a = s .config in
     not-19 (timingOf a) s w (config-19 a)
-    (past-all (fresh c) ws (record { opened = none; pairs = []; regular = tt; limit = omega arith; first = refl; stamps = refl }))
+    (past-all (fresh c) ws (record { phase = between idle; pairs = []; regular = (omega arith, tt); limit = omega arith; first = refl; stamps = refl }))
 
 pub refinement : Refinement
 refinement = record { verdict = verdict; never-19 = never-19 }

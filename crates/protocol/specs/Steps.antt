@@ -31,7 +31,7 @@ pub record Step : Type 0 where
 abbrev pub stepped : Stepped → Step
 stepped r = record { outcome = verdictOutcome (r .verdict); after = r .checker }
 
--- a fresh checker: clock 0, no pair open, no event and no breach
+-- a fresh checker: clock 0, the next word meets nothing, no event and no breach
 abbrev pub fresh : Config → Checker
 fresh c = record { config = c; clock = 0; first = 0xC0000; stamps = never; breach = record { clock = 0; number = 0 } }
 

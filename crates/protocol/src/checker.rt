@@ -31,7 +31,8 @@ pub struct Checker {
     pub config: Config,
     // The clock of the next word.
     pub clock: u32,
-    // The first word of the open pair, or a word with CS high where none is open.
+    // What the next word meets: the first word of the open pair, which has CS low; or, with CS high, asleep if PD is low, the second
+    // wake-up word due if PD and FN are high, nothing if PD is high and FN low.
     pub first: u32,
     pub stamps: Timestamps,
     pub breach: Breach,

@@ -8,7 +8,7 @@ use Rattle.config.specs.declared.Config.{Config}
 use Rattle.config.specs.declared.Timing.{Timing}
 use Rattle.command.specs.Pins.{pins, high, strayBit}
 use Rattle.command.specs.Address.{bankOf, rowOf}
-use Rattle.command.specs.Pairs.{opens, rda, lal, isWrite, isMode}
+use Rattle.command.specs.Pairs.{selected, rda, lal, isWrite, isMode}
 use Rattle.command.specs.declared.operation.Request.{Request}
 use Rattle.command.specs.declared.operation.Operation.{Operation}
 use Rattle.command.specs.declared.operation.Operation.the-variants.{Access, Regular, Extended, Refresh}
@@ -84,7 +84,7 @@ laneReserved t first second = isWrite first second && reserved t second
 -- the first word opens a pair, and the two words breach none of rules 1, 2, 4 and 5 (RULES 3.4)
 abbrev pub soundPair : Timing → ℕ → ℕ → Bool
 soundPair t first second =
-    opens first
+    selected first
     && not (strayBit first || strayBit second)
     && (high 19 first && high 19 second)
     && not (modeWrong t first second)

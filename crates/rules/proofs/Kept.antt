@@ -3,27 +3,29 @@ use Prim.Native.Nat.{ℕ}
 use mathlib.Core.Path.{_≡_, refl, sym, _∙_, ap}
 use mathlib.Core.Bool.{Bool}
 use mathlib.Core.List.{List, [], _∷_}
+use native.Mathlib.Omega.{arith}
 use Rattle.rules.specs.History.{Past, nothing, extend, pastFrom}
 use Rattle.rules.specs.Breaches.{wordBreach}
-use Rattle.rules.specs.Kept.{Kept, keptFrom, Enough}
+use Rattle.rules.specs.Kept.{Kept, firstOf, keptFrom, Enough}
 use Rattle.rules.proofs.Summary.{summary}
-use Rattle.rules.proofs.Words.{firstOf, Regular, regular-extend, breach-is, stamps-is, first-is, clock-is}
+use Rattle.rules.proofs.Words.{Regular, regular-extend, breach-is, stamps-is, first-is}
 
 abbrev of : Bool → Past → Kept
-of four p = record { clock = p .clock; first = firstOf (p .opened); stamps = summary four (p .pairs) }
+of four p = record { clock = p .clock; first = firstOf (p .phase); stamps = summary four (p .pairs) }
 
-kept-from : (four : Bool) (p : Past) (ws : List ℕ) → Regular (p .opened) (p .clock) (p .pairs)
-    → let q = pastFrom p ws in (keptFrom four (of four p) ws ≡ of four q) × Regular (q .opened) (q .clock) (q .pairs)
+kept-from : (four : Bool) (p : Past) (ws : List ℕ) → Regular (p .phase) (p .clock) (p .pairs)
+    → let q = pastFrom p ws in (keptFrom four (of four p) ws ≡ of four q) × Regular (q .phase) (q .clock) (q .pairs)
 kept-from four p [] r = (refl, r)
 kept-from four p (w ∷ ws) r =
-    let rest = kept-from four (extend p w) ws (regular-extend (p .opened) p w r) in
-    (rw (← clock-is (p .opened) p w, ← first-is (p .opened) p w r, ← stamps-is four (p .opened) p w r) (rest .0), rest .1)
+    let rest = kept-from four (extend p w) ws (regular-extend (p .phase) (p .clock) (p .pairs) w r) in
+    (rw (← first-is (p .phase) (p .clock) (p .pairs) w r, ← stamps-is four (p .phase) (p .clock) (p .pairs) w r) (rest .0), rest .1)
 
 pub enough : Enough
 enough =
     record {
       breach = λ t ws w.
-          let h = kept-from (t .four) nothing ws tt in
+          let h = kept-from (t .four) nothing ws (omega arith, tt) in
           let p = pastFrom nothing ws in
-          ap (λ k. wordBreach t (k .stamps) (k .clock) (k .first) w) (h .0) ∙ sym (breach-is t (p .opened) (p .clock) (p .pairs) w (h .1));
+          ap (λ k. wordBreach t (k .stamps) (k .clock) (k .first) w) (h .0) ∙ sym (breach-is t (p .phase) (p .clock) (p .pairs) w (h .1));
+      meets = λ four ws. ap (λ k. k .first) (kept-from four nothing ws (omega arith, tt) .0);
     }

@@ -57,30 +57,38 @@ newest f g h falls u same b le (p ∷ ps) o =
     go older true = rw (nonzero (p .start + 1) (omega arith), ← same (p .start) (omega arith)) (here (g (p .start)) refl)
     go older false = older
 
--- the two forms in which the rules have it: a spacing from the pair's start, and one from its closing word
+-- a spacing n of u from a place of each pair, as a test of k and the newest timestamp
+since : (f : ClosedPair → Bool) (from : ℕ → ℕ) → ((a b : ℕ) → a ≤ b → from a ≤ from b) → (n m u k : ℕ)
+    → ((s : ℕ) → s + 2 ≤ u → ltb (u - from s) n ≡ ltb k (s + 1 + m)) → (ps : List ClosedPair) → Ordered u ps
+    → earlier (λ p. f p && ltb (u - from (p .start)) n) ps ≡ near k (latest f ps) m
+since f from mono n m u k same ps o =
+    newest f (λ s. ltb (u - from s) n) (λ c. ltb k (c + m))
+    (λ a b h e.
+    let q = ltb-false (u - from b) n e in
+    let r = mono a b h in
+    le-ltb (u - from a) n (omega arith))
+    u same u (le-refl u) ps o
+
+-- the forms in which the rules have it: a spacing from the pair's start, and one from its closing word, of a pair that closes at k
 module _ (f : ClosedPair → Bool) (n k : ℕ) (ps : List ClosedPair) (o : Ordered (k - 1) ps) where
   pub since-start : earlier (λ p. f p && ltb (k - 1 - p .start) n) ps ≡ near k (latest f ps) n
   since-start =
-      newest f (λ s. ltb (k - 1 - s) n) (λ c. ltb k (c + n))
-      (λ a b h e.
-      let q = ltb-false (k - 1 - b) n e in
-      le-ltb (k - 1 - a) n (omega arith))
-      (k - 1)
-      (λ s h. ltb-same (k - 1 - s) n k (s + 1 + n) (λ q. omega arith) (λ q. omega arith))
-      (k - 1)
-      (le-refl (k - 1))
-      ps
-      o
+      since f (λ s. s) (λ a b h. h) n n (k - 1) k
+      (λ s h. ltb-same (k - 1 - s) n k (s + 1 + n) (λ q. omega arith) (λ q. omega arith)) ps o
 
   pub since-closing : earlier (λ p. f p && ltb (k - 1 - (p .start + 1)) n) ps ≡ near k (latest f ps) (n + 1)
   since-closing =
-      newest f (λ s. ltb (k - 1 - (s + 1)) n) (λ c. ltb k (c + (n + 1)))
-      (λ a b h e.
-      let q = ltb-false (k - 1 - (b + 1)) n e in
-      le-ltb (k - 1 - (a + 1)) n (omega arith))
-      (k - 1)
-      (λ s h. ltb-same (k - 1 - (s + 1)) n k (s + 1 + (n + 1)) (λ q. omega arith) (λ q. omega arith))
-      (k - 1)
-      (le-refl (k - 1))
-      ps
-      o
+      since f (λ s. s + 1) (λ a b h. omega arith) n (n + 1) (k - 1) k
+      (λ s h. ltb-same (k - 1 - (s + 1)) n k (s + 1 + (n + 1)) (λ q. omega arith) (λ q. omega arith)) ps o
+
+-- and of a word at k where no pair is open
+module _ (f : ClosedPair → Bool) (n k : ℕ) (ps : List ClosedPair) (o : Ordered k ps) where
+  pub idle-start : earlier (λ p. f p && ltb (k - p .start) n) ps ≡ near (k + 1) (latest f ps) n
+  idle-start =
+      since f (λ s. s) (λ a b h. h) n n k (k + 1)
+      (λ s h. ltb-same (k - s) n (k + 1) (s + 1 + n) (λ q. omega arith) (λ q. omega arith)) ps o
+
+  pub idle-closing : earlier (λ p. f p && ltb (k - (p .start + 1)) n) ps ≡ near k (latest f ps) n
+  idle-closing =
+      since f (λ s. s + 1) (λ a b h. omega arith) n n k k
+      (λ s h. ltb-same (k - (s + 1)) n k (s + 1 + n) (λ q. omega arith) (λ q. omega arith)) ps o

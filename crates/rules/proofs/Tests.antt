@@ -12,10 +12,10 @@ use Rattle.config.specs.declared.Timing.{Timing}
 use Rattle.command.specs.Pairs.{rda, lal, isRefresh}
 use Rattle.rules.specs.History.{ClosedPair, Past}
 use Rattle.command.specs.Address.{bankOf}
-use Rattle.rules.specs.Rules.{wasRead, wasWrite, wasAccess, wasMode, wasRefresh, wasRegular, wasExtended, earlier, closings, oldest, rule3, rule6, rule7, rule8, rule9, rule10, rule11, rule12}
-use Rattle.rules.specs.Breaches.{near, deadlineBy, deadline, overdue, bankStamp, notReady, tooClose, busy}
+use Rattle.rules.specs.Rules.{wasRead, wasWrite, wasAccess, wasMode, wasRefresh, wasRegular, wasExtended, earlier, closings, oldest, tooSoonToPowerDown, rule3, rule6, rule7, rule8, rule9, rule10, rule11, rule12}
+use Rattle.rules.specs.Breaches.{near, deadlineBy, deadline, overdue, bankStamp, mustStayHigh, notReady, tooClose, busy}
 use Rattle.rules.proofs.Closings.{Past0, ltb-same, closings-past0, each-past0, nonzero, counted, oldest-counted}
-use Rattle.rules.proofs.Newest.{Ordered, latest, since-start, since-closing}
+use Rattle.rules.proofs.Newest.{Ordered, latest, since-start, since-closing, idle-start, idle-closing}
 use Rattle.rules.proofs.Summary.{summary, ofBank, get-bank, bank-bound}
 
 -- an earlier pair of one of two kinds
@@ -85,6 +85,14 @@ overdue-is t p w =
     let past = closings-past0 wasRefresh (p .pairs) in
     allowed (t .refi) refs past (min (length refs) 8) (p .clock) (omega arith)
     ∙ ap (λ last. overdue last (p .clock)) (sym (oldest-counts (t .refi) refs past 8))
+
+-- rule 2 looks at no pair that is open: where one is, PD may not go low
+pub low-is : (t : Timing) (k : ℕ) (ps : List ClosedPair) → Ordered k ps → tooSoonToPowerDown t ps k ≡ mustStayHigh t (summary (t .four) ps) k
+low-is t k ps o =
+    let either = earlier-either wasRead wasWrite (λ p. ltb (k - p .start) (t .rc)) ps in
+    let accesses = either ∙ ap₂ _||_ (idle-start wasRead (t .rc) k ps o) (idle-start wasWrite (t .rc) k ps o) in
+    let starts = ap₂ _||_ (ap₂ _||_ accesses (idle-start wasMode (t .rsc) k ps o)) (idle-start wasRefresh (t .refc) k ps o) in
+    ap₂ _||_ (ap₂ _||_ starts (idle-closing wasRead (t .cl + t .bl / 2) k ps o)) (idle-closing wasWrite (t .wl + 2) k ps o)
 
 module _ (t : Timing) (k : ℕ) (first second : ℕ) (ps : List ClosedPair) (o : Ordered (k - 1) ps) where
   pub ready-is : rule6 t ps (k - 1) first second ≡ (lal second && notReady (summary (t .four) ps .extended) (summary (t .four) ps .regular) (getD (summary (t .four) ps .refs) 1 0) k)

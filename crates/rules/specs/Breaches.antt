@@ -7,10 +7,11 @@ use lib.ListN.{getD}
 use lib.Dec.{eqb, ltb}
 use Rattle.config.specs.declared.Timing.{Timing}
 use Rattle.command.specs.Pins.{high, strayBit}
-use Rattle.command.specs.Pairs.{opens, rda, lal, isRefresh}
+use Rattle.command.specs.Pairs.{selected, rda, lal, isRefresh}
 use Rattle.command.specs.Address.{bankOf}
 use Rattle.reading.specs.Reading.{modeWrong, laneReserved}
 use Rattle.rules.specs.Rules.{lowest}
+use Rattle.stamps.specs.Stamps.{isPoweredDown, isExiting}
 use Rattle.stamps.specs.declared.Timestamps.{Timestamps}
 
 -- an event at c, if there was one, is less than n clocks before k
@@ -35,9 +36,28 @@ deadline refi refs = deadlineBy 8 refi refs
 abbrev pub overdue : ℕ → ℕ → Bool
 overdue last k = not (eqb last 0) && ltb last k
 
--- rules 1 to 3, by the last clock that rule 3 allows
-abbrev pub earlyBreach : ℕ → ℕ → ℕ → ℕ
-earlyBreach last k w = lowest 1 (strayBit w ∷ not (high 19 w) ∷ overdue last k ∷ [])
+-- rule 2: PD may not go low at k yet. From t to k is k + 1 less a timestamp, and from the LAL k less it.
+abbrev pub mustStayHigh : Timing → Timestamps → ℕ → Bool
+mustStayHigh t s k =
+    near (k + 1) (s .read) (t .rc)
+    || near (k + 1) (s .write) (t .rc)
+    || near (k + 1) (s .mode) (t .rsc)
+    || near (k + 1) (getD (s .refs) 0 0) (t .refc)
+    || near k (s .read) (t .cl + t .bl / 2)
+    || near k (s .write) (t .wl + 2)
+
+-- rule 2, by what the word meets
+abbrev pub wronglyLow : Timing → Timestamps → ℕ → ℕ → ℕ → Bool
+wronglyLow t s k first w =
+    not (high 19 w) && (not (isPoweredDown first) && (selected first || isExiting first || selected w || mustStayHigh t s k))
+
+-- rules 1 to 3, by rule 2 and the last clock that rule 3 allows
+abbrev pub earlyBreach : Bool → ℕ → ℕ → ℕ → ℕ
+earlyBreach low last k w = lowest 1 (strayBit w ∷ low ∷ overdue last k ∷ [])
+
+-- rule 13: a wake-up word with CS low
+abbrev pub selectedAtExit : ℕ → ℕ → Bool
+selectedAtExit first w = (isPoweredDown first || isExiting first) && (high 19 w && selected w)
 
 -- rule 6, for a read or write: first extended and last regular MRS, last but one REF; from the extended MRS word to u are 200 clocks, to
 -- k 201
@@ -73,8 +93,12 @@ closingBreach t s k first second =
     ∷ (isRefresh first second && near k (getD (s .refs) 7 0) (t .window))
     ∷ [])
 
--- the lowest breach at a word, with the first word of the open pair, or a word with CS high where none is open
+-- the lowest of rules 1 to 3 at a word, by what it meets
+abbrev pub earlyAt : Timing → Timestamps → ℕ → ℕ → ℕ → ℕ
+earlyAt t s k first w = earlyBreach (wronglyLow t s k first w) (deadline (t .refi) (s .refs)) k w
+
+-- the lowest breach at a word, by what it meets
 abbrev pub wordBreach : Timing → Timestamps → ℕ → ℕ → ℕ → ℕ
 wordBreach t s k first w =
-    let early = earlyBreach (deadline (t .refi) (s .refs)) k w in
-    cond (eqb early 0) (cond (opens first) (closingBreach t s k first w) 0) early
+    let early = earlyAt t s k first w in
+    cond (eqb early 0) (cond (selected first) (closingBreach t s k first w) (cond (selectedAtExit first w) 13 0)) early

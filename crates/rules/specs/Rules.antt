@@ -1,17 +1,16 @@
--- The rules (RULES 4) over the whole history of closed pairs. Each word, at its clock k, is held to rules 1 to 3; a closing word, whose
--- pair began at u = k − 1, also to rules 4 to 12. An earlier pair began at t, so its LAL, MRS or REF stands at t + 1.
+-- The rules (RULES 4) over the whole history of closed pairs. Each word, at its clock k, is held to rules 1 to 3 and 13; a closing word,
+-- whose pair began at u = k − 1, also to rules 4 to 12. An earlier pair began at t, so its LAL, MRS or REF stands at t + 1.
 use Prim.Native.Nat.{ℕ, suc, _+_, _-_, _*_, _/_, min}
-use mathlib.Core.Bool.{Bool, false, cond, not, _&&_, _||_}
+use mathlib.Core.Bool.{Bool, true, false, cond, not, _&&_, _||_}
 use mathlib.Core.List.{List, [], _∷_, map}
-use mathlib.Core.Option.{Option, none, some}
 use lib.ListN.{length, getD}
 use lib.Dec.{eqb, leb, ltb}
 use Rattle.config.specs.declared.Timing.{Timing}
 use Rattle.command.specs.Pins.{high, strayBit}
-use Rattle.command.specs.Pairs.{lal, isRead, isWrite, isMode, isRefresh}
+use Rattle.command.specs.Pairs.{selected, lal, isRead, isWrite, isMode, isRefresh}
 use Rattle.command.specs.Address.{bankOf}
 use Rattle.reading.specs.Reading.{modeWrong, laneReserved}
-use Rattle.rules.specs.History.{ClosedPair, Past}
+use Rattle.rules.specs.History.{ClosedPair, idle, poweredDown, exiting, Phase, pair, between, Past}
 
 -- a closed pair was a read
 abbrev pub wasRead : ClosedPair → Bool
@@ -65,9 +64,25 @@ Rule = Timing → Past → ℕ → Bool
 abbrev pub rule1 : Rule
 rule1 t p w = strayBit w
 
--- rule 2 (RULES 4.2): PD is low
+-- too soon after an earlier pair for PD to go low at k (RULES 4.2): from t to k less than RC after a read or write, RSC after a mode or
+-- REFC after a refresh; from the LAL at t + 1 to k less than CL + BL / 2 after a read or WL + 2 after a write
+abbrev pub tooSoonToPowerDown : Timing → List ClosedPair → ℕ → Bool
+tooSoonToPowerDown t ps k =
+    earlier (λ p. wasAccess p && ltb (k - p .start) (t .rc)) ps
+    || earlier (λ p. wasMode p && ltb (k - p .start) (t .rsc)) ps
+    || earlier (λ p. wasRefresh p && ltb (k - p .start) (t .refc)) ps
+    || earlier (λ p. wasRead p && ltb (k - (p .start + 1)) (t .cl + t .bl / 2)) ps
+    || earlier (λ p. wasWrite p && ltb (k - (p .start + 1)) (t .wl + 2)) ps
+
+-- rule 2 (RULES 4.2): PD is low, was not so before, and may not go low: a pair is open, a wake-up word is due, CS is low, or it is too soon
 abbrev pub rule2 : Rule
-rule2 t p w = not (high 19 w)
+rule2 t p w = not (high 19 w) && forbidden (p .phase)
+  where
+    forbidden : Phase → Bool
+    forbidden (pair first) = true
+    forbidden (between idle) = selected w || tooSoonToPowerDown t (p .pairs) (p .clock)
+    forbidden (between poweredDown) = false
+    forbidden (between exiting) = true
 
 -- rule 3 (RULES 4.3): m is the number of REF words before k, but at most eight; m is at least 1, and k less the m-th last of them exceeds
 -- m × D
@@ -133,13 +148,24 @@ rule12 t ps u first second =
 
 -- a rule that is judged at closing words alone: by the first word of the open pair, at u = k − 1
 abbrev pub atClosing : (Timing → List ClosedPair → ℕ → ℕ → ℕ → Bool) → Rule
-atClosing rule t p w = by (p .opened)
+atClosing rule t p w = by (p .phase)
   where
-    by : Option ℕ → Bool
-    by none = false
-    by (some first) = rule t (p .pairs) (p .clock - 1) first w
+    by : Phase → Bool
+    by (pair first) = rule t (p .pairs) (p .clock - 1) first w
+    by (between r) = false
 
--- the twelve in their order: 1 to 3 at each word, 4 to 12 at each closing word
+-- the word is one of the two wake-up words (RULES 2.8), if PD is high
+abbrev pub exitWord : Phase → Bool
+exitWord (pair first) = false
+exitWord (between idle) = false
+exitWord (between poweredDown) = true
+exitWord (between exiting) = true
+
+-- rule 13 (RULES 4.13): a wake-up word with CS low
+abbrev pub rule13 : Rule
+rule13 t p w = exitWord (p .phase) && (high 19 w && selected w)
+
+-- the thirteen in their order: 4 to 12 at each closing word, the others at each word
 abbrev pub rules : List Rule
 rules =
     rule1
@@ -154,6 +180,7 @@ rules =
     ∷ atClosing rule10
     ∷ atClosing rule11
     ∷ atClosing rule12
+    ∷ rule13
     ∷ []
 
 -- the number of the first test that holds, counted from n on, and so the lowest (RULES 5.1); 0 where none does

@@ -4,10 +4,11 @@ use command::address::bank;
 use command::pins::BA0;
 use command::pins::CS;
 use command::pins::FN;
+use command::pins::PD;
 use command::pins::high;
 ghost use mathlib.Core.Path.{_≡_};
 ghost use Prim.Native.Nat.{_<_};
-ghost use Rattle.stamps.specs.Stamps.{withAccess, withMode, withRefresh, remembered, nextStamps, nextFirst, never};
+ghost use Rattle.stamps.specs.Stamps.{withAccess, withMode, withRefresh, remembered, nextStamps, isPoweredDown, isExiting, nextFirst, never};
 
 pub struct Timestamps {
     // The first extended MRS word.
@@ -27,6 +28,13 @@ pub struct Timestamps {
 
 // The word that is sent where nothing else is.
 pub const DESL: u32 = 0xC0000;
+
+// What the next word meets is kept as one word: the first word of the open pair, which has CS low; where none is open, DESL for nothing,
+// or one of these two. Asleep: the word before had PD low.
+pub const POWERED_DOWN: u32 = 0x40000;
+
+// The second of the two wake-up words is due.
+const EXITING: u32 = 0xE0000;
 
 impl Timestamps {
     // No event yet.
@@ -111,7 +119,7 @@ impl Timestamps {
         }
     }
 
-    // What is kept after a word, where `first` is the word of the open pair, or one with CS high where none is open.
+    // What is kept after a word, by what the word meets.
     pub fn after(self, four: bool, clock: u32, first: u32, word: u32) -> Timestamps
         ensures { λ r. ⌜ r ≡ nextStamps four self clock first word ⌝ }
     {
@@ -124,9 +132,29 @@ impl Timestamps {
     }
 }
 
-// The first word of the pair that is open after a word, or DESL.
+// The memory is asleep: no pair is open, and PD was low.
+pub fn is_powered_down(first: u32) -> bool
+    ensures { λ r. ⌜ r ≡ isPoweredDown first ⌝ }
+{
+    let no_pair = high(first, CS);
+    no_pair & !high(first, PD)
+}
+
+// The second of the two wake-up words is due.
+pub fn is_exiting(first: u32) -> bool
+    ensures { λ r. ⌜ r ≡ isExiting first ⌝ }
+{
+    let unpaired = high(first, CS);
+    let driven = high(first, PD);
+    unpaired & (driven & high(first, FN))
+}
+
+// What the word behind this one meets.
 pub fn next_first(first: u32, word: u32) -> u32
     ensures { λ r. ⌜ r ≡ nextFirst first word ⌝ }
 {
-    choose(high(first, CS) & !high(word, CS), word, DESL)
+    let after_desl = choose(is_powered_down(first), EXITING, DESL);
+    let driven = choose(!high(word, CS), word, after_desl);
+    let next = choose(high(word, PD), driven, POWERED_DOWN);
+    choose(!high(first, CS), DESL, next)
 }

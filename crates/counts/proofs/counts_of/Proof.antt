@@ -1,4 +1,4 @@
--- The invariant: the counts are those of the words passed, and the first word is that of the pair which they leave open.
+-- The invariant: the counts are those of the words passed, and the first word says what the next one meets.
 -- Assumes nothing.
 use Prim.Native.Nat.{_+_, _-_, _≤_}
 use mathlib.Core.Path.{_≡_, refl, _∙_, ap}
@@ -9,7 +9,7 @@ use lib.ListN.{length, take, getD}
 use lib.Seq.{take-suc, take-all}
 use denote.Ref.{now}
 use Rattle.rules.specs.History.{nothing, pastFrom}
-use Rattle.rules.proofs.Words.{firstOf}
+use Rattle.rules.specs.Kept.{firstOf}
 use Rattle.counts.specs.Counts.{countsOf}
 use Rattle.counts.specs.Turn.{Below}
 use Rattle.counts.proofs.Growth.{counts-append, first-append}
@@ -21,7 +21,7 @@ Inv-loop words counts₀ first₀ i₀ counts first i =
     (i ≤ length words)
     × Below i counts
     × (counts ≡ countsOf (take i words))
-    × (first ≡ firstOf (pastFrom nothing (take i words) .opened))
+    × (first ≡ firstOf (pastFrom nothing (take i words) .phase))
 
 abbrev μ-loop : tie.MeasureT-loop
 μ-loop words counts₀ first₀ i₀ counts first i = length words - i

@@ -3,17 +3,53 @@ use borrow.Author.Needs.{needs}
 use Rattle.stamps.proofs.next_first.Statement.{statement}
 use Rattle.stamps.proofs.next_first.Tie as tie
 
-high-requires : tie.Need-high-requires
-high-requires c κs = search needs
-
-high-requires-2 : tie.Need-high-requires-2
-high-requires-2 c κs = search needs
+is-powered-down-requires : tie.Need-is-powered-down-requires
+is-powered-down-requires c κs = search needs
 
 choose-requires : tie.Need-choose-requires
 choose-requires c κs = search needs
 
+high-requires : tie.Need-high-requires
+high-requires c κs = search needs
+
+choose-requires-2 : tie.Need-choose-requires-2
+choose-requires-2 c κs = search needs
+
+high-requires-2 : tie.Need-high-requires-2
+high-requires-2 c κs = search needs
+
+choose-requires-3 : tie.Need-choose-requires-3
+choose-requires-3 c κs = search needs
+
+high-requires-3 : tie.Need-high-requires-3
+high-requires-3 c κs = search needs
+
+choose-requires-4 : tie.Need-choose-requires-4
+choose-requires-4 c κs = search needs
+
 returns : tie.Need-returns
-returns c = rw (c .choose .ensures, c .before .high2 .ensures, c .before .before .high .ensures)
+returns c =
+    rw (
+      c .choose4 .ensures,
+      c .before .high3 .ensures,
+      c .before .before .choose3 .ensures,
+      c .before .before .before .high2 .ensures,
+      c .before .before .before .before .choose2 .ensures,
+      c .before .before .before .before .before .high .ensures,
+      c .before .before .before .before .before .before .choose .ensures,
+      c .before .before .before .before .before .before .before .is-powered-down .ensures,
+    )
 
 pub next-first-spec : {M : Type 1} → statement M
-next-first-spec = tie.close (tie.spec high-requires high-requires-2 choose-requires returns)
+next-first-spec =
+    tie.close
+    (tie.spec
+    is-powered-down-requires
+    choose-requires
+    high-requires
+    choose-requires-2
+    high-requires-2
+    choose-requires-3
+    high-requires-3
+    choose-requires-4
+    returns)

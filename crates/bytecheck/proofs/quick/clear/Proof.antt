@@ -1,9 +1,9 @@
--- Each of rules 5, 7 and 8 is kept by one of the tests. Assumes nothing.
+-- Each rule is kept by one of the tests. Assumes nothing.
 use Prim.Native.Nat.{ℕ, _+_, _≤_, _<_}
 use mathlib.Core.Path.{_≡_, sym, _∙_}
 use mathlib.Core.Bool.{Bool, true, false, cond, false≢true}
 use native.Mathlib.Omega.{arith}
-use borrow.Author.Tests.{not-true, not-false}
+use borrow.Author.Tests.{not-true}
 use borrow.Author.Needs.{needs}
 use Rattle.config.specs.declared.Timing.{Timing}
 use Rattle.command.specs.Pairs.{rda}
@@ -29,65 +29,67 @@ choose-requires c κs = search needs
 choose-requires-2 : tie.Need-choose-requires-2
 choose-requires-2 c κs = search needs
 
-high-requires-2 : tie.Need-high-requires-2
-high-requires-2 c κs = search needs
-
 returns : tie.Need-returns
 returns c e = absurd (false≢true e)
-
-plus-requires : tie.Need-plus-requires
-plus-requires c κs = search needs
 
 returns-2 : tie.Need-returns-2
 returns-2 c e = absurd (false≢true e)
 
-plus-requires-2 : tie.Need-plus-requires-2
-plus-requires-2 c κs = search needs
+plus-requires : tie.Need-plus-requires
+plus-requires c κs = search needs
 
 returns-3 : tie.Need-returns-3
 returns-3 c e = absurd (false≢true e)
 
-plus-requires-3 : tie.Need-plus-requires-3
-plus-requires-3 c κs = search needs
+plus-requires-2 : tie.Need-plus-requires-2
+plus-requires-2 c κs = search needs
 
 returns-4 : tie.Need-returns-4
 returns-4 c e = absurd (false≢true e)
 
-plus-requires-4 : tie.Need-plus-requires-4
-plus-requires-4 c κs = search needs
+plus-requires-3 : tie.Need-plus-requires-3
+plus-requires-3 c κs = search needs
 
 returns-5 : tie.Need-returns-5
 returns-5 c e = absurd (false≢true e)
 
+plus-requires-4 : tie.Need-plus-requires-4
+plus-requires-4 c κs = search needs
+
+returns-6 : tie.Need-returns-6
+returns-6 c e = absurd (false≢true e)
+
 lane-reserved-requires : tie.Need-lane-reserved-requires
 lane-reserved-requires c κs = search needs
 
-returns-6 : tie.Need-returns-6
-returns-6 c e =
+returns-7 : tie.Need-returns-7
+returns-7 c e =
     let reserved = c .lane-reserved in
     let turned = c .before in
     let after-write = turned .before .before in
     let after-read = after-write .before .before in
     let same-bank = after-read .before .before in
-    let closing = same-bank .before .before in
-    let turn = closing .before .before in
+    let late = same-bank .before .before in
+    let closing = late .before in
+    let turn = closing .before in
     let other = turn .before in
     let opening = other .before in
     let figures = opening .before .figures .ensures in
     let a = opening .before .before .args in
     record {
-      isLal = sym (closing .before .high2 .ensures) ∙ not-false (closing .before .high2 .result) (closing .if1 .left);
+      driven = closing .if1 .left;
+      late = late .if2 .left;
       unreserved = sym (reserved .ensures) ∙ not-true (reserved .result) e;
       rested =
           far (a .clock) (a .recent .bank) (a .timing .rc)
-          (omega (arith, rw figures at (same-bank .before .plus .ensures), same-bank .if2 .left));
+          (omega (arith, rw figures at (same-bank .before .plus .ensures), same-bank .if3 .left));
       spaced =
           far-apart (rda (a .first)) (a .timing) (a .recent .read) (a .recent .write) (a .clock)
-          (omega (arith, rw figures at (after-read .before .plus2 .ensures), after-read .if3 .left))
-          (omega (arith, rw figures at (after-write .before .plus3 .ensures), after-write .if4 .left))
+          (omega (arith, rw figures at (after-read .before .plus2 .ensures), after-read .if4 .left))
+          (omega (arith, rw figures at (after-write .before .plus3 .ensures), after-write .if5 .left))
           (rw (← opening .high .ensures)
           (rw (← other .choose .ensures, ← (rw figures at (turn .choose2 .ensures)))
-          (omega (arith, turned .before .plus4 .ensures, turned .if5 .left))));
+          (omega (arith, turned .before .plus4 .ensures, turned .if6 .left))));
     }
 
 pub clear-spec : {M : Type 1} → statement M
@@ -98,15 +100,15 @@ clear-spec =
     high-requires
     choose-requires
     choose-requires-2
-    high-requires-2
     returns
-    plus-requires
     returns-2
-    plus-requires-2
+    plus-requires
     returns-3
-    plus-requires-3
+    plus-requires-2
     returns-4
-    plus-requires-4
+    plus-requires-3
     returns-5
+    plus-requires-4
+    returns-6
     lane-reserved-requires
-    returns-6)
+    returns-7)

@@ -2,15 +2,15 @@
 use mathlib.Core.Path.{_≡_, sym, _∙_, ap}
 use mathlib.Core.Bool.{true, false, not}
 use borrow.Author.Needs.{needs}
-use Rattle.command.specs.Pairs.{opens}
+use Rattle.command.specs.Pairs.{selected}
 use Rattle.stamps.proofs.Timestamps.after.Statement.{statement}
 use Rattle.stamps.proofs.Timestamps.after.Tie as tie
 
 -- what the test tells
-opened : (c : tie.Then1) → opens (c .before .before .args .first) ≡ true
+opened : (c : tie.Then1) → selected (c .before .before .args .first) ≡ true
 opened c = ap not (sym (c .before .high .ensures)) ∙ c .if1 .taken
 
-idle : (c : tie.Else1) → opens (c .before .before .args .first) ≡ false
+idle : (c : tie.Else1) → selected (c .before .before .args .first) ≡ false
 idle c = ap not (sym (c .before .high .ensures)) ∙ c .if1 .left
 
 high-requires : tie.Need-high-requires

@@ -1,0 +1,91 @@
+// Runs of words that breach nothing: of DESL, and a whole sleep. They are there for speed.
+use crate::quick::earlier;
+use crate::quick::in_time;
+use breaches::must_stay_high;
+use command::pins::CS;
+use command::pins::PD;
+use config::Timing;
+use early::deadline;
+use stamps::DESL;
+use stamps::Timestamps;
+ghost use Prim.Native.Nat.{_≤_, _<_, _/_};
+ghost use lib.ListN.{length};
+ghost use Rattle.words.specs.Words.{wordsOf};
+ghost use Rattle.bytecheck.specs.Quick.{RunPassed, IdlePassed, LowPassed};
+
+// The lowest word with a bit above PD.
+const STRAY: u32 = 0x100000;
+
+// Passes over the words from a clock on that stand before `end` and are at least `least` and below `bound`.
+fn past_run(bytes: &[u8], clock: u32, end: u64, least: u32, bound: u32) -> u32
+    requires { ⌜ length (now bytes) / 4 ≤ 16777216 ⌝ }
+    ensures { λ r. ⌜ (clock ≤ r) × RunPassed least bound end (wordsOf (now (bytes .entry))) clock r ⌝ }
+{
+    // Bounded by the words at hand too: then reading one tests nothing again.
+    let stop = earlier(end, (bytes.len() / 4) as u64);
+    let mut at = clock;
+    while (at as u64) < stop {
+        let word = words::word_at(bytes, at as usize);
+        if (word < least) | (bound <= word) {
+            return at;
+        }
+        at += 1;
+    }
+    at
+}
+
+// Passes over a whole sleep: the word at the clock, which goes low, those with PD low behind it, and the two wake-up words. The clock
+// itself where it is not sure that these breach nothing.
+fn past_power_down(timing: Timing, bytes: &[u8], stamps: Timestamps, clock: u32, end: u64) -> u32
+    requires { ⌜ (length (now bytes) / 4 ≤ 16777216) × (end ≤ length (now bytes) / 4) × (clock < end) ⌝ }
+    ensures { λ r. ⌜ (clock ≤ r) × IdlePassed timing stamps end (wordsOf (now (bytes .entry))) clock r ⌝ }
+{
+    let word = words::word_at(bytes, clock as usize);
+    if word / CS != 1 {
+        return clock;
+    }
+    if must_stay_high(timing, stamps, clock) {
+        return clock;
+    }
+    let at = past_run(bytes, clock + 1, end, 0, PD);
+    if end < at as u64 + 2 {
+        return clock;
+    }
+    let first_exit = words::word_at(bytes, at as usize);
+    let second_exit = words::word_at(bytes, at as usize + 1);
+    if (first_exit / CS != 3) | (second_exit / CS != 3) {
+        return clock;
+    }
+    at + 2
+}
+
+// Passes over the DESL words from the clock on, or over the sleep that begins there. The clock itself where neither does.
+pub(crate) fn past_idle(
+    timing: Timing,
+    bytes: &[u8],
+    stamps: Timestamps,
+    clock: u32,
+    end: u64,
+) -> u32
+    requires { ⌜ (length (now bytes) / 4 ≤ 16777216) × (end ≤ length (now bytes) / 4) × (clock < end) ⌝ }
+    ensures { λ r. ⌜ (clock ≤ r) × IdlePassed timing stamps end (wordsOf (now (bytes .entry))) clock r ⌝ }
+{
+    let word = words::word_at(bytes, clock as usize);
+    if word / CS == 3 {
+        past_run(bytes, clock, end, DESL, STRAY)
+    } else {
+        past_power_down(timing, bytes, stamps, clock, end)
+    }
+}
+
+// Passes over the words with PD low from a clock on where the memory is asleep, as long as rule 3 is kept.
+pub(crate) fn past_low(timing: Timing, bytes: &[u8], stamps: Timestamps, clock: u32) -> u32
+    requires { ⌜ length (now bytes) / 4 ≤ 16777216 ⌝ }
+    ensures { λ r. ⌜ LowPassed timing stamps (wordsOf (now (bytes .entry))) clock r ⌝ }
+{
+    let figures = timing.figures();
+    let refs = stamps.refs;
+    let count = (bytes.len() / 4) as u64;
+    let end = in_time(deadline(figures.refi, refs), count);
+    past_run(bytes, clock, end, 0, PD)
+}
