@@ -19,7 +19,7 @@ abbrev pub gives : Timing → Course → List ℕ → Bool
 gives t c [] = true
 gives t c (w ∷ ws) = let r = tick t c in cond (eqb (r .word) w) (gives t (r .after) ws) false
 
--- case a, then the rows of CheckerCases, of WiringCases and of SleepCases
+-- case a, then the rows of CheckerCases, of WiringCases and of PowerDownCases
 abbrev pub table : List Row
 table =
     -- a (RULES 8.5): a fresh controller that was offered this read gives the start-up, RDA at 201, and at every other clock C0000, at 200
