@@ -9,8 +9,8 @@ use std::path::{Path, PathBuf};
 use std::process::exit;
 use std::time::{Duration, Instant};
 
-const USAGE: &str =
-    "compare --replay PATH|self [--scale N] [pairs] [checker] [controller] [scripts] [states]";
+const USAGE: &str = "compare --replay PATH|self [--scale N] \
+    [pairs] [checker] [controller] [scripts] [states] [relaxed]";
 
 /// The program under comparison: a file, or none to play the scripts on this implementation.
 struct Program(Option<PathBuf>);

@@ -81,7 +81,7 @@ fn started(random: &Random, sheet: &Sheet) -> Trace {
 }
 
 /// A pair after the start-up, these pins of its closing word put high and low.
-fn closing(random: &Random, sheet: &Sheet, kind: Kind, high: u32, low: u32) -> Vec<u32> {
+pub fn closing(random: &Random, sheet: &Sheet, kind: Kind, high: u32, low: u32) -> Vec<u32> {
     let mut trace = started(random, sheet);
     let [first, second] = trace.words_of(random, kind, random.below(8));
     trace.add(&[first, (second | high) & !low]);
@@ -89,7 +89,7 @@ fn closing(random: &Random, sheet: &Sheet, kind: Kind, high: u32, low: u32) -> V
 }
 
 /// Two reads so many clocks apart whose first words differ in BA2 alone.
-fn two_reads(random: &Random, sheet: &Sheet, apart: u32) -> Vec<u32> {
+pub fn two_reads(random: &Random, sheet: &Sheet, apart: u32) -> Vec<u32> {
     let mut trace = started(random, sheet);
     let [first, second] = trace.words_of(random, Kind::Read, random.below(8));
     trace.add(&[first, second]);

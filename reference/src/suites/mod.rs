@@ -13,6 +13,7 @@ pub mod pairs;
 pub mod pool;
 pub mod power_down;
 pub mod ranges;
+pub mod relaxed;
 pub mod scripts;
 pub mod sheets;
 pub mod sleep;
@@ -43,7 +44,7 @@ pub struct Suite {
 }
 
 /// All suites, in the order in which they run.
-pub const SUITES: [Suite; 5] = [
+pub const SUITES: [Suite; 6] = [
     Suite {
         name: "pairs",
         seed: 0x5EED_0001,
@@ -78,6 +79,13 @@ pub const SUITES: [Suite; 5] = [
         cases: states::cases,
         promised: states::promised,
         promise: None,
+    },
+    Suite {
+        name: "relaxed",
+        seed: 0x5EED_000A,
+        cases: relaxed::cases,
+        promised: relaxed::promised,
+        promise: Some(relaxed::check),
     },
 ];
 

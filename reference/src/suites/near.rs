@@ -140,11 +140,22 @@ pub fn round(
 
 /// A trace on a sheet that keeps close to the rules, ended in one of the ways.
 pub fn near_words(random: &Random, coverage: &mut Coverage, sheet: Sheet, way: u32) -> Vec<u32> {
-    let mut trace = Trace::new(sheet);
+    near_words_on(random, coverage, [sheet; 2], way)
+}
+
+/// The same with two sheets of one wiring: behind its start-up it keeps close to the rules on the second.
+pub fn near_words_on(
+    random: &Random,
+    coverage: &mut Coverage,
+    [first, second]: [Sheet; 2],
+    way: u32,
+) -> Vec<u32> {
+    let mut trace = Trace::new(first);
     if random.once_in(12) {
         trace.power_down(random, coverage);
     }
     trace.start_up(random, coverage);
+    trace.sheet = second;
     for _ in 0..random.pick(&[0, 1, 2, 5, 12]) {
         let kind = some_kind(random);
         trace.put_kind(random, kind, coverage);

@@ -33,7 +33,7 @@ pub fn parts() -> Vec<Sheet> {
 }
 
 /// The range of each count at a CL, on an accepted sheet.
-fn count_ranges(cl: u32) -> [(u32, u32); 5] {
+pub fn count_ranges(cl: u32) -> [(u32, u32); 5] {
     let mut ranges = COUNT_RANGES;
     if cl == 4 {
         ranges[4].0 = LEAST_REFC_AT_CL_4;
