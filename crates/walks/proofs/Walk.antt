@@ -22,12 +22,12 @@ use Rattle.consistency.specs.Consistency.{clockFits}
 use Rattle.protocol.specs.Steps.{Step, fresh, refusing, stepBy, stepOf}
 use Rattle.protocol.specs.Refinement.{follow, stepping, afterAll}
 use Rattle.protocol.specs.declared.checker.Checker.{Checker}
-use Rattle.protocol.proofs.Refinement.{refinement}
+use Rattle.protocol.proofs.Refinement.{refinement, cond-case}
 use Rattle.walks.specs.Walk.{Reached, ended, Move, staying, ofWord, examined, atEnd, moveOf, advanced, unless, walking, stopOf}
 use Rattle.walks.specs.Walk.{CheckerCall, step, advance, afterCalls, Walk}
 
 -- what holds of an examined word, and where none is left, holds of an advance
-move-case : (P : Move → Type 0) (s : Checker) (ws : List ℕ) → (s .clock < length ws → P (examined (stepOf s (getD ws (s .clock) 0))))
+pub move-case : (P : Move → Type 0) (s : Checker) (ws : List ℕ) → (s .clock < length ws → P (examined (stepOf s (getD ws (s .clock) 0))))
     → (length ws ≤ s .clock → P (staying s (atEnd s))) → P (moveOf s ws)
 move-case P s ws word end = go (ltb (s .clock) (length ws)) refl
   where
@@ -35,33 +35,31 @@ move-case P s ws word end = go (ltb (s .clock) (length ws)) refl
     go true e = word (ltb-true _ _ e)
     go false e = end (ltb-false _ _ e)
 
--- what a step leaves alone: the configuration, and the clock but for one word that passes
-record StepKeeps (s : Checker) (r : Step) : Type 0 where
-  config : r .after .config ≡ s .config
-  clock : r .after .clock ≤ s .clock + 1
-  passes : r .outcome ≡ value accepted → r .after .clock ≡ s .clock + 1
+-- what a step leaves alone: the configuration, and the clock but for one word that passes; that is only below clock 16,777,216
+pub record StepKeeps (s : Checker) (r : Step) : Type 0 where
+  pub config : r .after .config ≡ s .config
+  pub clock : r .after .clock ≤ s .clock + 1
+  pub passes : r .outcome ≡ value accepted → r .after .clock ≡ s .clock + 1
+  pub limit : r .outcome ≡ value accepted → s .clock < 16777216
 
 keeps-refusing : (s : Checker) (n : ℕ) → StepKeeps s (refusing s n)
-keeps-refusing s n = record { config = refl; clock = omega arith; passes = λ e. absurd (refused-value e) }
+keeps-refusing s n = record { config = refl; clock = omega arith; passes = λ e. absurd (refused-value e); limit = λ e. absurd (refused-value e) }
 
 keeps-by : (o : Outcome Timing) (s : Checker) (w : ℕ) → StepKeeps s (stepBy o s w)
 keeps-by (refused n) s w = keeps-refusing s n
 keeps-by (value t) s w =
-    by (clockFits (s .clock) (s .first) (s .stamps))
-    (by (eqb (s .breach .number) 0)
-    (by (ltb (s .clock) 16777216)
-    (by (eqb (wordBreach t (s .stamps) (s .clock) (s .first) w) 0)
-    (record { config = refl; clock = omega arith; passes = λ e. refl })
-    (record { config = refl; clock = omega arith; passes = λ e. cc }))
-    (keeps-refusing s 24))
-    (keeps-refusing s 23))
-    (keeps-refusing s 19)
-  where
-    by : (b : Bool) {x y : Step} → StepKeeps s x → StepKeeps s y → StepKeeps s (cond b x y)
-    by true h k = h
-    by false h k = k
+    cond-case (StepKeeps s) (clockFits (s .clock) (s .first) (s .stamps)) _ _
+    (λ _. cond-case (StepKeeps s) (eqb (s .breach .number) 0) _ _
+    (λ _. cond-case (StepKeeps s) (ltb (s .clock) 16777216) _ _
+    (λ l. let h = ltb-true (s .clock) 16777216 l in
+    cond-case (StepKeeps s) (eqb (wordBreach t (s .stamps) (s .clock) (s .first) w) 0) _ _
+    (λ _. record { config = refl; clock = omega arith; passes = λ e. refl; limit = λ e. h })
+    (λ _. record { config = refl; clock = omega arith; passes = λ e. cc; limit = λ e. h }))
+    (λ _. keeps-refusing s 24))
+    (λ _. keeps-refusing s 23))
+    (λ _. keeps-refusing s 19)
 
-keeps-step : (s : Checker) (w : ℕ) → StepKeeps s (stepOf s w)
+pub keeps-step : (s : Checker) (w : ℕ) → StepKeeps s (stepOf s w)
 keeps-step s w = keeps-by (timingOf (s .config)) s w
 
 -- what every advance keeps, a walk keeps

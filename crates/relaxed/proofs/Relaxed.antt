@@ -1,0 +1,123 @@
+-- The theorem of specs/Relaxed: the timing of the second sheet is no stricter to any rule, so the first is a witness for each. A trace that
+-- steps or a walk accept is one that the whole check takes. Assumes nothing.
+use Prim.Native.Nat.{ℕ, _+_, _-_, _/_, _%_, _≤_, _<_}
+use mathlib.Core.Path.{_≡_, refl, sym, _∙_, ap}
+use mathlib.Core.Bool.{cond}
+use mathlib.Core.List.{List}
+use native.Mathlib.Omega.{arith}
+use lib.ListN.{length}
+use lib.Dec.{eqb, leb}
+use Rattle.basics.specs.Outcome.{value}
+use Rattle.config.specs.Configuration.{rcOf, derived}
+use Rattle.config.specs.declared.Config.{Config}
+use Rattle.config.specs.declared.Timing.{Timing}
+use Rattle.words.specs.Words.{wordsOf}
+use Rattle.rules.specs.Verdict.{accepted, judge, checkOf, checkBytesOf}
+use Rattle.protocol.specs.Steps.{fresh}
+use Rattle.protocol.specs.Refinement.{stepping}
+use Rattle.walks.specs.Walk.{ended, walking, stopOf}
+use Rattle.basics.proofs.Outcomes.{require-value}
+use Rattle.config.proofs.Accepted.{behind}
+use Rattle.protocol.proofs.Refinement.{refinement}
+use Rattle.walks.proofs.Walk.{walk}
+use Rattle.relaxed.specs.Dependence.{Dependence, dependences, Every, NoStricter, Witness}
+use Rattle.relaxed.specs.Relaxed.{Relaxed, StillAccepted}
+use Rattle.relaxed.proofs.Kept.{_▸_}
+use Rattle.relaxed.proofs.Monotone.{every-map, monotone}
+use Rattle.relaxed.proofs.Limits.{step-limit, walk-limit, stop-accepted}
+
+le-eq : {m n : ℕ} → m ≡ n → m ≤ n
+le-eq e = omega arith
+
+module _ (a b : Config) (r : Relaxed a b) where
+  abbrev s : Timing
+  s = derived a
+
+  abbrev t : Timing
+  t = derived b
+
+  -- RC, WL, D and W follow from CL and the period
+  rc : t .rc ≤ s .rc
+  rc = le-eq (ap rcOf (r .cl))
+
+  cl : t .cl ≤ s .cl
+  cl = le-eq (r .cl)
+
+  bl : t .bl ≤ s .bl
+  bl = le-eq (r .bl)
+
+  wl : t .wl ≤ s .wl
+  wl = le-eq (ap (λ n. n - 1) (r .cl))
+
+  no-stricter : Every (λ d. NoStricter d s t) dependences
+  no-stricter =
+      (tt, tt, tt)
+      ▸ (tt, rc ▸ cl ▸ bl ▸ wl ▸ r .rsc ▸ r .refc ▸ tt, tt)
+      ▸ (tt, tt, le-eq (ap (λ n. 3900000 / n) (sym (r .period))) ▸ tt)
+      ▸ (r .cl ▸ r .bl ▸ tt, tt, tt)
+      ▸ (r .bl ▸ r .organisation ▸ tt, tt, tt)
+      ▸ (tt, tt, tt)
+      ▸ (ap (λ n. cond (eqb n 4) 4 8) (r .wiring) ▸ tt, rc ▸ tt, tt)
+      ▸ (tt, r .rbd ▸ r .rwd ▸ r .wrd ▸ tt, tt)
+      ▸ (tt, r .rsc ▸ tt, tt)
+      ▸ (tt, r .refc ▸ tt, tt)
+      ▸ (tt, rc ▸ cl ▸ bl ▸ wl ▸ tt, tt)
+      ▸ (tt, le-eq (ap (λ n. 3200000 / n + 1) (r .period)) ▸ tt, tt)
+      ▸ (tt, tt, tt)
+      ▸ tt
+
+  witness : (words : List ℕ) → judge s words ≡ accepted → (d : Dependence) → NoStricter d s t → Witness t words d
+  witness words e d l = record { timing = s; no-stricter = l; passes = e }
+
+  judged : (words : List ℕ) → judge s words ≡ accepted → judge t words ≡ accepted
+  judged words e = monotone .passes t words (every-map dependences (witness words e) no-stricter)
+
+  check : (words : List ℕ) → checkOf a words ≡ value accepted → checkOf b words ≡ value accepted
+  check words e =
+      let h = require-value (leb (length words) 16777216) _ _ (behind a _ e .1) in
+      rw (r .second-accepted, h .0) (ap value (judged words (cc (h .1))))
+
+  check-bytes : (bytes : List ℕ) → checkBytesOf a bytes ≡ value accepted → checkBytesOf b bytes ≡ value accepted
+  check-bytes bytes e =
+      let h = require-value (eqb (length bytes % 4) 0) _ _ (behind a _ e .1) in
+      let k = require-value (leb (length bytes / 4) 16777216) _ _ (h .1) in
+      rw (r .second-accepted, h .0, k .0) (ap value (judged (wordsOf bytes) (cc (k .1))))
+
+  steps : (words : List ℕ) → stepping (fresh a) words ≡ value accepted → stepping (fresh b) words ≡ value accepted
+  steps words e =
+      let h = step-limit (fresh a) words (omega arith) e in
+      let l : length words ≤ 16777216 = omega arith in
+      let q = refinement .verdict a s words (r .first-accepted) l in
+      refinement .verdict b t words (r .second-accepted) l ∙ ap value (judged words (cc (sym q ∙ e)))
+
+  walks : (words : List ℕ) (n : ℕ) → walking n (fresh a) words ≡ value ended → walking n (fresh b) words ≡ value ended
+  walks words n e =
+      let (l, h) = walk-limit words n (fresh a) (omega arith) (omega arith) e in
+      let m : length words < n = omega arith in
+      let q = walk .verdict a s words n (r .first-accepted) l m in
+      walk .verdict b t words n (r .second-accepted) l m
+      ∙ ap (λ j. value (stopOf j)) (judged words (stop-accepted (judge s words) (cc (sym q ∙ e))))
+
+pub still-accepted : StillAccepted
+still-accepted =
+    record {
+      some =
+          record {
+            first-accepted = refl;
+            second-accepted = refl;
+            cl = refl;
+            bl = refl;
+            organisation = refl;
+            period = refl;
+            wiring = refl;
+            rbd = omega arith;
+            rwd = omega arith;
+            wrd = omega arith;
+            rsc = omega arith;
+            refc = omega arith;
+          };
+      check = λ a b words r. check a b r words;
+      check-bytes = λ a b bytes r. check-bytes a b r bytes;
+      steps = λ a b words r. steps a b r words;
+      walk = λ a b words n r. walks a b r words n;
+    }
