@@ -28,6 +28,7 @@ impl Coverage {
         for line in lines {
             let (name, numbers) = line.split_once(' ').unwrap_or((line, ""));
             let number = match (name, call) {
+                ("breach", Call::CheckWithin(..)) => numbers.split(' ').nth(1),
                 ("refused" | "breach" | "config", _) => numbers.split(' ').next_back(),
                 ("tick", _) | ("counts", Call::CountAnyway(_)) => numbers.split(' ').next(),
                 _ => None,

@@ -5,11 +5,12 @@ use crate::checker::{Checker, Step};
 use crate::controller::Controller;
 use crate::counts::{counts, Counts};
 use crate::judge::{check, Verdict};
+use crate::limits::check_within;
 use crate::lines::{self, numbered, refused};
 use crate::pair::{self, Operation, Request};
 use crate::past::Past;
 use crate::script::{bytes, Call, PairNumbers};
-use crate::sheet::{Sheet, SHEET_E};
+use crate::sheet::{Sheet, NUMBERS, SHEET_E};
 use crate::state::{self, CheckerNumbers, ControllerNumbers};
 use crate::walk::Walk;
 use crate::word::DESL;
@@ -18,14 +19,22 @@ use std::fmt::Write;
 /// The line for a script, or the rest of one, that cannot be played.
 const SCRIPT_REFUSED: &str = "script refused\n";
 
-/// What a script gives: its text, its calls, the wiring that each goes by, and the lines of the text
-/// up to each call's end.
+/// What a script gives: its text, its calls, the configuration once each is made, the wiring that each
+/// goes by, and the lines of the text up to each call's end.
 #[derive(Default)]
 pub struct Answers {
     pub text: String,
     pub calls: Vec<Call>,
+    pub configurations: Vec<Sheet>,
     pub wirings: Vec<u32>,
     pub ends: Vec<usize>,
+}
+
+impl Answers {
+    /// The call that a line of the text answers.
+    pub fn call_of(&self, line: usize) -> usize {
+        self.ends.partition_point(|&end| end <= line)
+    }
 }
 
 /// The replay program's configuration, checker and controller.
@@ -54,6 +63,7 @@ impl Player {
             }
             Call::Step { count, word } => self.step(*count, *word),
             Call::Check(words) => self.check(words),
+            Call::CheckWithin(greatest, words) => self.check_within(*greatest, words),
             // A lent controller answers and is left as one that is handed back.
             Call::Offer(numbers) | Call::OfferLent(numbers) => self.offer(*numbers),
             Call::Tick(count) | Call::TickLent(count) => self.tick(*count),
@@ -114,6 +124,16 @@ impl Player {
         match check::<Both>(&self.sheet, words) {
             Ok(Verdict::Accepted) => format!("accepted {}\n", words.len()),
             Ok(Verdict::Breach { clock, number }) => format!("breach {clock} {number}\n"),
+            Err(number) => refused(number),
+        }
+    }
+
+    /// The whole check on every sheet from the configuration to another.
+    fn check_within(&self, greatest: [u32; NUMBERS], words: &[u32]) -> String {
+        let greatest = Sheet::from_numbers(greatest);
+        match check_within::<Both>(self.sheet, greatest, words) {
+            Ok(Some(shown)) => lines::shown(&shown),
+            Ok(None) => "always\n".to_string(),
             Err(number) => refused(number),
         }
     }
@@ -234,6 +254,7 @@ pub fn answers(script: &[u8]) -> Answers {
         let text = player.play(&call);
         lines += text.lines().count();
         answers.text += &text;
+        answers.configurations.push(player.sheet);
         answers.wirings.push(player.wiring(&call));
         answers.calls.push(call);
         answers.ends.push(lines);

@@ -1,6 +1,7 @@
 //! The lines that the replay program writes for answers.
 
 use crate::checker::Step;
+use crate::limits::Shown;
 use crate::pair::Operation;
 use crate::walk::Move;
 
@@ -23,6 +24,13 @@ pub fn moved(moved: Move, clock: u32) -> String {
 pub fn numbered(word: &str, numbers: &[u32]) -> String {
     let texts: Vec<String> = numbers.iter().map(|n| format!(" {n}")).collect();
     format!("{word}{}\n", texts.concat())
+}
+
+/// The line of a sheet in the limits and the breach on it.
+pub fn shown(shown: &Shown) -> String {
+    let Shown { clock, number, .. } = shown;
+    let breach = format!("breach {clock} {number} on");
+    numbered(&breach, &shown.sheet.numbers())
 }
 
 /// The line of an operation that was read.

@@ -33,6 +33,8 @@ pub enum Call {
     TickLent(u32),
     /// Test the configuration with its wiring and start afresh on it.
     ConfigWired([u32; NUMBERS]),
+    /// The whole check on every sheet from the configuration to this one.
+    CheckWithin([u32; NUMBERS], Vec<u32>),
     /// Put the checker into a state.
     PutChecker(Box<CheckerNumbers>),
     /// Put the controller into a state, of which the number of the open pair is at most 4.
@@ -80,6 +82,7 @@ impl Call {
             Call::OfferLent(_) => 11,
             Call::TickLent(_) => 12,
             Call::ConfigWired(_) => 13,
+            Call::CheckWithin(..) => 15,
             Call::PutChecker(_) => 101,
             Call::PutController(_) => 102,
             Call::ShowChecker => 103,
@@ -106,6 +109,7 @@ impl Call {
         match self {
             Call::Config(sheet) => sheet.to_vec(),
             Call::ConfigWired(sheet) => sheet.to_vec(),
+            Call::CheckWithin(sheet, words) => [&sheet[..], &counted(words)].concat(),
             Call::Step { count, word } => vec![*count, *word],
             Call::Check(words) | Call::Count(words) | Call::Walk(words) => counted(words),
             Call::CountAnyway(words) | Call::Advance(words) => counted(words),
@@ -151,6 +155,7 @@ impl Call {
             11 => Call::OfferLent(some(rest)?),
             12 => Call::TickLent(one(rest)?),
             13 => Call::ConfigWired(some(rest)?),
+            15 => Call::CheckWithin(some(rest)?, counted(rest)?),
             101 => Call::PutChecker(Box::new(some(rest)?)),
             102 => Call::PutController(Box::new(
                 some(rest).filter(|numbers| state::controller(numbers).is_some())?,

@@ -4,6 +4,9 @@
 pub const NUMBERS: usize = 11;
 pub const WITHOUT_WIRING: usize = 10;
 
+/// The places of the six numbers that a setter may know within limits: the period and the five counts.
+pub const LIMITED: std::ops::Range<usize> = 4..10;
+
 /// The numbers of a sheet as the setter wrote them, accepted or not.
 #[derive(Clone, Copy, Debug, PartialEq, Eq)]
 pub struct Sheet {
@@ -110,6 +113,13 @@ impl Sheet {
     /// The numbers but for the wiring.
     pub fn without_wiring(&self) -> [u32; WITHOUT_WIRING] {
         self.numbers()[..WITHOUT_WIRING].try_into().unwrap()
+    }
+
+    /// The sheet with another value of the number at a place.
+    pub fn with(&self, place: usize, value: u32) -> Sheet {
+        let mut numbers = self.numbers();
+        numbers[place] = value;
+        Sheet::from_numbers(numbers)
     }
 
     /// The five counts of clocks in the paper's order.

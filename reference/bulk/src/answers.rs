@@ -3,6 +3,7 @@
 use reference::checker::Step;
 use reference::counts::{counts, Counts};
 use reference::judge::{check, Verdict};
+use reference::limits::{check_within, Limits};
 use reference::past::Past;
 use reference::sheet::Sheet;
 use reference::walk::{Move, Walk};
@@ -21,11 +22,29 @@ pub fn breach_of(answer: u64) -> Option<(u64, u64)> {
     Some((breach / 64, breach % 64))
 }
 
+/// An answer in words.
+pub fn meaning(answer: u64) -> String {
+    match (answer, breach_of(answer)) {
+        (_, Some((clock, number))) => format!("breach {clock} {number}"),
+        (0, None) => "no fault".to_string(),
+        (number, None) => format!("refused {number}"),
+    }
+}
+
 /// The number of a whole check.
 pub fn check_number<P: Past>(sheet: &Sheet, words: &[u32]) -> u64 {
     match check::<P>(sheet, words) {
         Ok(Verdict::Accepted) => 0,
         Ok(Verdict::Breach { clock, number }) => breach(clock, number),
+        Err(number) => number.into(),
+    }
+}
+
+/// The number of a check on every sheet in the limits, with the breach on one of those that could be shown.
+pub fn limits_number<P: Past>(limits: &Limits, words: &[u32]) -> u64 {
+    match check_within::<P>(limits.least, limits.greatest, words) {
+        Ok(None) => 0,
+        Ok(Some(shown)) => breach(shown.clock, shown.number),
         Err(number) => number.into(),
     }
 }

@@ -1,6 +1,7 @@
 //! Calls of the archive's functions on lent words.
 
-use reference::sheet::Sheet;
+use reference::limits::Limits;
+use reference::sheet::{Sheet, NUMBERS};
 
 /// A call that takes a sheet and a trace, and answers with one number.
 type OnSheet = unsafe extern "C" fn(sheet: *const u32, words: *const u32, length: usize) -> u64;
@@ -10,6 +11,13 @@ mod archive {
         pub fn bulk_check(sheet: *const u32, words: *const u32, length: usize) -> u64;
         pub fn bulk_walk(sheet: *const u32, words: *const u32, length: usize) -> u64;
         pub fn bulk_walk_again(sheet: *const u32, words: *const u32, length: usize) -> u64;
+        pub fn bulk_limits(
+            least: *const u32,
+            greatest: *const u32,
+            words: *const u32,
+            length: usize,
+            shown: *mut u32,
+        ) -> u64;
         pub fn bulk_count(words: *const u32, length: usize, counts: *mut u32, room: usize) -> u32;
     }
 }
@@ -34,6 +42,15 @@ pub fn walk(sheet: &Sheet, words: &[u32]) -> u64 {
 /// The answer of one advance more after that.
 pub fn walk_again(sheet: &Sheet, words: &[u32]) -> u64 {
     on_sheet(archive::bulk_walk_again, sheet, words)
+}
+
+/// The check on every sheet in the limits: 0 always, a refusal, or a breach on the sheet shown.
+pub fn limits(limits: &Limits, words: &[u32], shown: &mut [u32; NUMBERS]) -> u64 {
+    let (least, greatest) = (limits.least.numbers(), limits.greatest.numbers());
+    let (least, greatest) = (least.as_ptr(), greatest.as_ptr());
+    let (start, length) = (words.as_ptr(), words.len());
+    // SAFETY: the numbers and the words can be read, and eleven places written, while they are lent.
+    unsafe { archive::bulk_limits(least, greatest, start, length, shown.as_mut_ptr()) }
 }
 
 /// Counts the commands into the room given: 0 or a refusal.

@@ -13,7 +13,7 @@ use reference::wiring::{self, WIRINGS};
 use reference::word::DESL;
 
 /// The lengths on either side of each limit, with their names.
-const LENGTHS: [(usize, &str); 4] = [
+pub const LENGTHS: [(usize, &str); 4] = [
     (LONGEST_TALLY, "65,536 words"),
     (LONGEST_TALLY + 1, "65,537 words"),
     (LONGEST as usize, "16,777,216 words"),
@@ -21,7 +21,7 @@ const LENGTHS: [(usize, &str); 4] = [
 ];
 
 /// A word that may not go low, CS being low.
-const LOW_CS: u32 = 0;
+pub const LOW_CS: u32 = 0;
 
 /// The calls that take a sheet.
 const CALLS: [&str; 3] = ["check", "walk", "walk again"];
@@ -130,10 +130,14 @@ pub fn short(run: &mut Run, random: &Random) {
     }
 }
 
+/// A trace of greatest length and one word more. Right for four banks, it is so for eight too.
+pub fn longest(random: &Random) -> Vec<u32> {
+    load::mixed(random, &SHEET_E_OF_FOUR, LONGEST as usize + 1)
+}
+
 /// Traces at the limits, with each wiring: as they should be, with a breach at the last clock, with one
-/// early on, and all of them on sheets that are refused. Those for four banks are right for eight too.
-pub fn long(run: &mut Run, random: &Random) {
-    let mut words = load::mixed(random, &SHEET_E_OF_FOUR, LONGEST as usize + 1);
+/// early on, and all of them on sheets that are refused.
+pub fn long(run: &mut Run, words: &mut [u32]) {
     for (length, name) in LENGTHS {
         let last = words[length - 1];
         on_both(run, &words[..length], name);

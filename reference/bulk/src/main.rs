@@ -1,9 +1,12 @@
-//! Compares the check, the walk and the tally on lent words with the reference implementation, on
-//! short traces and at the lengths where the refusals 24 and 30 begin.
+//! Compares the check, on one sheet and within limits, the walk and the tally on lent words with the
+//! reference implementation, on short traces and at the lengths where the refusals 24 and 30 begin.
 
 mod answers;
 mod call;
 mod cases;
+mod last_clock;
+mod limits;
+mod limits_cases;
 mod run;
 
 use reference::random::Random;
@@ -18,14 +21,20 @@ fn main() {
     let random = Random::new(SEED);
     let mut run = Run::default();
     cases::short(&mut run, &random);
-    cases::long(&mut run, &random);
+    limits_cases::short(&mut run, &random);
+    limits_cases::many_corners(&mut run, &random);
+    let mut words = cases::longest(&random);
+    cases::long(&mut run, &mut words);
+    limits_cases::long(&mut run, &mut words);
+    last_clock::each(&mut run);
     cases::sleeping(&mut run, &random);
     let seconds = start.elapsed().as_secs_f64();
     println!(
         "bulk: seed {SEED:#x}, {} calls agree, {seconds:.1} s",
         run.calls
     );
-    let sound = run.coverage.report(&cases::promised());
+    let promised = [cases::promised(), limits_cases::promised()].concat();
+    let sound = run.coverage.report(&promised);
     println!(
         "{}",
         if sound {

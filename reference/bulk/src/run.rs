@@ -1,6 +1,6 @@
 //! One comparison under way: calls the archive's functions, compares, counts.
 
-use crate::answers::{breach_of, check_number, count_numbers, walk_numbers};
+use crate::answers::{breach_of, check_number, count_numbers, meaning, walk_numbers};
 use crate::call;
 use reference::coverage::Coverage;
 use reference::past::Past;
@@ -8,8 +8,8 @@ use reference::sheet::Sheet;
 use reference::wiring;
 use std::process::exit;
 
-/// What stands in a place of the counts before a call.
-const UNTOUCHED: u32 = 7_777_777;
+/// What stands in a place of the counts, or of a sheet, before a call.
+pub const UNTOUCHED: u32 = 7_777_777;
 
 /// What was called and met so far.
 #[derive(Default)]
@@ -74,34 +74,30 @@ impl Run {
         if wanted != got {
             fail(call, words, &meaning(wanted), &meaning(got));
         }
+        self.count_answer(call, length, words, wanted);
+    }
+
+    /// Counts an answer that is right.
+    pub fn count_answer(&mut self, call: &str, length: &str, words: &[u32], answer: u64) {
         self.calls += 1;
-        let name = match breach_of(wanted) {
+        let name = match breach_of(answer) {
             Some((clock, number)) if clock + 1 == words.len() as u64 => {
                 format!("breach {number} at the last clock")
             }
             Some((_, number)) => format!("breach {number}"),
-            None => meaning(wanted),
+            None => meaning(answer),
         };
         self.coverage.meet(&format!("{call}, {length}: {name}"));
     }
 }
 
 /// The name of a length, with the wiring of the sheet.
-fn on(sheet: &Sheet, length: &str) -> String {
+pub fn on(sheet: &Sheet, length: &str) -> String {
     format!("{length}, {}", wiring::name(sheet.wiring))
 }
 
-/// An answer in words.
-fn meaning(answer: u64) -> String {
-    match (answer, breach_of(answer)) {
-        (_, Some((clock, number))) => format!("breach {clock} {number}"),
-        (0, None) => "no fault".to_string(),
-        (number, None) => format!("refused {number}"),
-    }
-}
-
 /// Reports a difference, keeps the trace and ends the program.
-fn fail(call: &str, words: &[u32], wanted: &str, got: &str) -> ! {
+pub fn fail(call: &str, words: &[u32], wanted: &str, got: &str) -> ! {
     println!("FAILED: {call} on {} words", words.len());
     println!("  reference: {wanted}");
     println!("  archive:   {got}");

@@ -10,7 +10,7 @@ use std::process::exit;
 use std::time::{Duration, Instant};
 
 const USAGE: &str = "compare --replay PATH|self [--scale N] \
-    [pairs] [checker] [controller] [scripts] [states] [relaxed]";
+    [pairs] [checker] [controller] [scripts] [states] [relaxed] [limits]";
 
 /// The program under comparison: a file, or none to play the scripts on this implementation.
 struct Program(Option<PathBuf>);
@@ -19,7 +19,7 @@ impl Program {
     /// What the program writes for a script.
     fn play(&self, script: &[u8]) -> Result<String, String> {
         let Some(path) = &self.0 else {
-            return Ok(answers(script).text);
+            return Ok(answers(script).otherwise());
         };
         let output = run(path, script, Feed::Pipe)?;
         String::from_utf8(output.bytes).map_err(|e| e.to_string())
@@ -42,17 +42,7 @@ fn try_script(program: &Program, suite: &Suite, script: &[u8], tally: &mut Tally
         Ok(text) => text,
         Err(fault) => fail(script, &wanted, wanted.calls.len(), &fault),
     };
-    if text != wanted.text {
-        let (line, call) = difference(&wanted, &text);
-        let of = |text: &str| match text.lines().nth(line) {
-            Some(line) => line.to_string(),
-            None => "(no line)".to_string(),
-        };
-        let fault = format!(
-            "line {line} differs\n  reference: {}\n  program:   {}",
-            of(&wanted.text),
-            of(&text)
-        );
+    if let Some((call, fault)) = difference(&wanted, &text) {
         fail(script, &wanted, call, &fault);
     }
     let lines: Vec<&str> = text.lines().collect();
@@ -76,18 +66,22 @@ fn try_script(program: &Program, suite: &Suite, script: &[u8], tally: &mut Tally
     tally.lines += lines.len();
 }
 
-/// The first line that differs and the call that it answers.
-fn difference(wanted: &Answers, text: &str) -> (usize, usize) {
-    let mut ours = wanted.text.lines();
-    let mut theirs = text.lines();
-    let mut line = 0;
-    while let (Some(a), Some(b)) = (ours.next(), theirs.next()) {
-        if a != b {
-            break;
-        }
-        line += 1;
+/// The call that the first line at fault answers, and the fault; none if every line is as ours, or shows
+/// another sheet and is as right.
+fn difference(wanted: &Answers, text: &str) -> Option<(usize, String)> {
+    let text = wanted.as_ours(text);
+    if text == wanted.text {
+        return None;
     }
-    (line, wanted.ends.partition_point(|&end| end <= line))
+    let both = wanted.text.lines().zip(text.lines());
+    let line = both.take_while(|(ours, theirs)| ours == theirs).count();
+    let of = |text: &str| text.lines().nth(line).unwrap_or("(no line)").to_string();
+    let (ours, theirs) = (of(&wanted.text), of(&text));
+    let mut fault = format!("line {line} differs\n  reference: {ours}\n  program:   {theirs}");
+    if let Some(why) = wanted.fault(line, &theirs) {
+        fault += &format!("\n  at fault:  {why}");
+    }
+    Some((wanted.call_of(line), fault))
 }
 
 /// Reports a fault at a call, writes the script that shows it, and ends the program.

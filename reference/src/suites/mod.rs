@@ -5,6 +5,7 @@ pub mod checker;
 pub mod controller;
 mod damage;
 mod ending;
+pub mod limits;
 pub mod load;
 pub mod long;
 pub mod marks;
@@ -44,7 +45,7 @@ pub struct Suite {
 }
 
 /// All suites, in the order in which they run.
-pub const SUITES: [Suite; 6] = [
+pub const SUITES: [Suite; 7] = [
     Suite {
         name: "pairs",
         seed: 0x5EED_0001,
@@ -86,6 +87,13 @@ pub const SUITES: [Suite; 6] = [
         cases: relaxed::cases,
         promised: relaxed::promised,
         promise: Some(relaxed::check),
+    },
+    Suite {
+        name: "limits",
+        seed: 0x5EED_000B,
+        cases: limits::cases,
+        promised: limits::promised,
+        promise: None,
     },
 ];
 

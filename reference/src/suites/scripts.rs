@@ -1,7 +1,7 @@
 //! The script itself: calls of all codes mixed, the configuration at the start, and scripts that
 //! are refused whole or from some call on.
 
-use super::{configs, names, pool, sheets, sleep, trace};
+use super::{configs, limits, names, pool, sheets, sleep, trace};
 use crate::coverage::Coverage;
 use crate::random::Random;
 use crate::script::{bytes, Call, Packer, PairNumbers};
@@ -25,6 +25,7 @@ pub fn promised() -> Vec<String> {
     promised.extend(names(10, &["end"]));
     promised.extend(names(11, &["offered"]));
     promised.extend(names(12, &["clock"]));
+    promised.extend(names(15, &["always", "breach 6", "refused 35"]));
     promised
 }
 
@@ -46,6 +47,10 @@ pub fn cases(seed: u64, scale: u32, packer: &mut Packer, coverage: &mut Coverage
         for code in [3, 8, 10] {
             packer.raw(&bytes(&[6, PD, PD, code, count]));
         }
+        packer.raw(&bytes(&[&[9], &within_e()[..], &[count]].concat()));
+    }
+    for cut in 1..=within_e().len() {
+        packer.raw(&bytes(&[&[9], &within_e()[..cut]].concat()));
     }
     lengths(packer);
 }
@@ -62,8 +67,18 @@ fn lengths(packer: &mut Packer) {
     longest.push(9);
     packer.raw(&bytes(&longest));
     packer.raw(&bytes(&longest)[..65_537]);
+    let mut longest = [&within_e()[..], &[16_384 - 13]].concat();
+    longest.resize(16_384, DESL);
+    packer.raw(&bytes(&longest));
+    longest[12] += 1;
+    packer.raw(&bytes(&longest));
     packer.raw(&[9]);
     packer.raw(&[9, 0, 0]);
+}
+
+/// A check within limits of the one sheet E, as far as the number of its words.
+fn within_e() -> Vec<u32> {
+    [&[15], &SHEET_E.numbers()[..]].concat()
 }
 
 /// Calls of all codes at random, from the configuration that stands at the start.
@@ -89,12 +104,9 @@ fn some_call(random: &Random, sheet: &Sheet) -> Call {
     let operation = pool::operation(random, &fit, kind, random.below(8));
     let (first, second) = pool::noisy(random, &fit, kind, &operation);
     let low = sleep::low_word(random);
-    let mut request = pool::request(random, &fit, random.once_in(2), random.below(8)).numbers();
-    if random.once_in(9) {
-        request[1] = fit.wiring;
-    }
-    match random.below(21) {
-        0 if random.once_in(4) => pool::config(random, &random.pick(&sheets::refused())),
+    let request = some_request(random, &fit);
+    match random.below(22) {
+        0 if random.once_in(3) => pool::config(random, &random.pick(&sheets::refused())),
         0 => pool::config(random, &pool::sheet(random)),
         1..=3 => Call::Step {
             count: random.below(40),
@@ -116,6 +128,24 @@ fn some_call(random: &Random, sheet: &Sheet) -> Call {
         17 => Call::WritePair(PairNumbers::Extended(random.below(66))),
         18 => Call::Count(vec![low, low & !CS, first, second, low, first]),
         19 => Call::Walk([low, DESL, DESL, first, second][..random.below(6) as usize].to_vec()),
+        20 => some_within(random, &fit, &[low, DESL, DESL, first, second]),
         _ => Call::Waiting,
     }
+}
+
+/// A request that fits the sheet, or seldom one of a bank that there is not.
+fn some_request(random: &Random, sheet: &Sheet) -> [u32; 6] {
+    let mut request = pool::request(random, sheet, random.once_in(2), random.below(8)).numbers();
+    if random.once_in(9) {
+        request[1] = sheet.wiring;
+    }
+    request
+}
+
+/// A check within limits, mostly of the sheet and one with larger numbers, on the first of these words.
+fn some_within(random: &Random, sheet: &Sheet, words: &[u32]) -> Call {
+    let larger = limits::about(random, *sheet, &[4, 6, 9]).greatest;
+    let greatest = random.pick(&[*sheet, larger, larger, pool::sheet(random)]);
+    let count = random.below(words.len() as u32 + 1) as usize;
+    Call::CheckWithin(greatest.numbers(), words[..count].to_vec())
 }

@@ -56,7 +56,7 @@ pub fn count_order(coverage: &mut Coverage, sheet: &Sheet) {
 pub fn refused() -> Vec<Sheet> {
     let of = |sheet: Sheet| {
         let with = |refc| Sheet { refc, ..sheet };
-        let unfit = |sheet: Sheet| UNFIT.map(|(field, value)| put(&sheet, field, value));
+        let unfit = |sheet: Sheet| UNFIT.map(|(field, value)| sheet.with(field, value));
         let alone = [14, 15, 17, 64].map(with);
         [&alone[..], &unfit(sheet), &unfit(with(17))].concat()
     };
@@ -64,13 +64,6 @@ pub fn refused() -> Vec<Sheet> {
         .into_iter()
         .flat_map(of)
         .collect()
-}
-
-/// The sheet with another value in one field.
-fn put(sheet: &Sheet, field: usize, value: u32) -> Sheet {
-    let mut numbers = sheet.numbers();
-    numbers[field] = value;
-    Sheet::from_numbers(numbers)
 }
 
 /// Values of the sheet's field i around its edges on this part, and others that a narrower number
@@ -143,7 +136,7 @@ pub fn each_edge(visit: &mut dyn FnMut(Sheet)) {
     for part in [pool::parts(), pool::short_parts()].concat() {
         for i in 0..NUMBERS {
             for value in edge_values(&part, i) {
-                visit(put(&part, i, value));
+                visit(part.with(i, value));
             }
         }
     }

@@ -83,7 +83,7 @@ pub fn each(
 
 /// A start-up that both sheets accept, a pair, and what it holds off: one clock before the edge of the
 /// relaxed sheet, or so many clocks later.
-fn trace(
+pub fn trace(
     random: &Random,
     [stricter, relaxed]: [Sheet; 2],
     (_, name, from, kind, then): Edge,

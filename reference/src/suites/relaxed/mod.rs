@@ -2,11 +2,11 @@
 //! another grade: what the first accepts, the second accepts. Codes 2, 3 and 10.
 
 mod conditions;
-mod edges;
+pub(super) mod edges;
 mod meet;
 mod order;
 mod sentence;
-mod two_sheets;
+pub(super) mod two_sheets;
 
 use super::checker::steps;
 use super::long::dense_words;

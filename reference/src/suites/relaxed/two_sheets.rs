@@ -40,9 +40,7 @@ pub fn count(sheet: &Sheet, name: &str) -> u32 {
 
 /// The sheet with another value of a count.
 pub fn with_count(sheet: &Sheet, name: &str, count: u32) -> Sheet {
-    let mut numbers = sheet.numbers();
-    numbers[5 + place(name)] = count;
-    Sheet::from_numbers(numbers)
+    sheet.with(5 + place(name), count)
 }
 
 /// A sheet at random and one that relaxes it, at times of the other grade.
