@@ -1,7 +1,7 @@
 -- The number of each refusal.
 use Prim.Native.Nat.{ℕ}
 use Rattle.basics.specs.declared.refusal.Refusal.{Refusal}
-use Rattle.basics.specs.declared.refusal.Refusal.the-variants.{State, Part, Period, Count, InBreach, ClockLimit, InputSize, Field, QueueFull, NotAPair, PartialWord, TooLong, ShortRefresh, Wiring}
+use Rattle.basics.specs.declared.refusal.Refusal.the-variants.{State, Part, Period, Count, InBreach, ClockLimit, InputSize, Field, QueueFull, NotAPair, PartialWord, TooLong, ShortRefresh, Wiring, Limits}
 
 -- the number behind the dot in section 6 of RULES
 abbrev pub refusalNumber : Refusal → ℕ
@@ -19,3 +19,4 @@ refusalNumber PartialWord = 29
 refusalNumber TooLong = 30
 refusalNumber ShortRefresh = 33
 refusalNumber Wiring = 34
+refusalNumber Limits = 35

@@ -31,6 +31,8 @@ pub enum Refusal {
     ShortRefresh,
     // A wiring other than 4 or 8: 34.
     Wiring,
+    // Two sheets that differ outside the period and the counts, or a least number above its greatest: 35.
+    Limits,
 }
 
 impl Refusal {
@@ -53,6 +55,7 @@ impl Refusal {
             Refusal::TooLong => 30,
             Refusal::ShortRefresh => 33,
             Refusal::Wiring => 34,
+            Refusal::Limits => 35,
         }
     }
 }

@@ -6,6 +6,7 @@ use Rattle.config.specs.Configuration.{wiredOf}
 use Rattle.config.specs.declared.Config.{Config}
 use Rattle.basics.specs.Outcome.{Outcome, value, refused}
 use Rattle.rules.specs.Verdict.{Judgement, accepted, breach}
+use Rattle.limits.specs.Limits.{Finding, always, breachOn}
 use Rattle.walks.specs.Walk.{Reached, passed, breached, ended}
 
 -- the configuration of eleven numbers in the order of RULES 1.1
@@ -22,6 +23,12 @@ abbrev pub checkNumber : Outcome Judgement → ℕ
 checkNumber (value accepted) = 0
 checkNumber (value (breach clock n)) = breachNumber clock n
 checkNumber (refused n) = n
+
+-- the same of what is found in limits, with 0 for always
+abbrev pub findingNumber : Outcome Finding → ℕ
+findingNumber (value always) = 0
+findingNumber (value (breachOn c clock n)) = breachNumber clock n
+findingNumber (refused n) = n
 
 -- the same of a walk, with 0 for its end; one that stops does not pass, and the number of a pass is no other answer's
 abbrev pub walkNumber : Outcome Reached → ℕ

@@ -1,6 +1,7 @@
 // Calls on long slices, for the tests alone: what the program `replay` cannot take, since its script is short.
 mod counting;
 mod number;
+mod shown;
 mod walk;
 
 use config::Config;
@@ -9,15 +10,19 @@ use counting::number_of;
 use counting::store;
 use counts::count_commands;
 use lending::advance_through;
+use limits::check_within;
 use number::of_progress;
 use number::of_verdict;
+use shown::of_answer;
+use shown::show;
 use walk::walk;
 ghost use mathlib.Core.Path.{_≡_};
 ghost use Rattle.rules.specs.Verdict.{checkOf};
 ghost use Rattle.counts.specs.Counts.{countingOf};
-ghost use Rattle.bulk.specs.Numbers.{sheetOf, checkNumber, walkNumber};
+ghost use Rattle.bulk.specs.Numbers.{sheetOf, checkNumber, findingNumber, walkNumber};
 ghost use Rattle.bulk.specs.Walks.{walkOf, againOf};
 ghost use Rattle.bulk.specs.Stored.{stored};
+ghost use Rattle.bulk.specs.Shown.{foundOf, shownIn};
 
 // The configuration that the eleven numbers of a sheet make.
 fn config_of(sheet: &[u32; 11]) -> Config
@@ -44,6 +49,22 @@ pub extern "C" fn bulk_check(sheet: &[u32; 11], words: &[u32]) -> u64
     ensures { λ r. ⌜ r ≡ checkNumber (checkOf (sheetOf (now (sheet .entry))) (now (words .entry))) ⌝ }
 {
     of_verdict(wordcheck::check(config_of(sheet), words))
+}
+
+// The check in the limits of two sheets; the sheet that is shown is put into the places.
+#[no_mangle]
+pub extern "C" fn bulk_limits(
+    least: &[u32; 11],
+    greatest: &[u32; 11],
+    words: &[u32],
+    shown: &mut [u32; 11],
+) -> u64
+    ensures answer { λ r. ⌜ r ≡ findingNumber (foundOf (now (least .entry)) (now (greatest .entry)) (now (words .entry))) ⌝ }
+    ensures buffer { λ _. ⌜ now (shown .exit) ≡ shownIn (foundOf (now (least .entry)) (now (greatest .entry)) (now (words .entry))) (now (shown .entry)) ⌝ }
+{
+    let answer = check_within(config_of(least), config_of(greatest), words);
+    show(answer, shown);
+    of_answer(answer)
 }
 
 // A fresh walk, advanced until it does not pass: the answer that it stops with.

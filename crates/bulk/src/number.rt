@@ -7,7 +7,7 @@ ghost use Rattle.protocol.specs.Steps.{verdictOutcome};
 ghost use Rattle.walks.specs.Walk.{progressOutcome};
 ghost use Rattle.bulk.specs.Numbers.{breachNumber, checkNumber, walkNumber};
 
-fn of_breach(breach: Breach) -> u64
+pub(crate) fn of_breach(breach: Breach) -> u64
     ensures { λ r. ⌜ r ≡ breachNumber (breach .clock) (breach .number) ⌝ }
 {
     1099511627776 + breach.clock as u64 * 64 + breach.number as u64

@@ -10,7 +10,7 @@ use Rattle.config.specs.Answers.{timingOutcome}
 use Rattle.config.specs.declared.Timing.{Timing}
 use Rattle.config.specs.declared.TimingAnswer.{TimingAnswer}
 use Rattle.basics.specs.declared.refusal.Refusal.{Refusal}
-use Rattle.basics.specs.declared.refusal.Refusal.the-variants.{State, Part, Period, Count, InBreach, ClockLimit, InputSize, Field, QueueFull, NotAPair, PartialWord, TooLong, ShortRefresh, Wiring}
+use Rattle.basics.specs.declared.refusal.Refusal.the-variants.{State, Part, Period, Count, InBreach, ClockLimit, InputSize, Field, QueueFull, NotAPair, PartialWord, TooLong, ShortRefresh, Wiring, Limits}
 use Rattle.reading.specs.Answers.{readOutcome}
 use Rattle.writing.specs.Answers.{writeOutcome}
 use Rattle.command.specs.declared.operation.Operation.{Operation}
@@ -20,6 +20,9 @@ use Rattle.writing.specs.declared.WriteAnswer.{WriteAnswer}
 use Rattle.rules.specs.Verdict.{Judgement, accepted, breach}
 use Rattle.protocol.specs.Steps.{verdictOutcome}
 use Rattle.protocol.specs.declared.checker.Verdict.{Verdict}
+use Rattle.limits.specs.Limits.{Finding, always, breachOn}
+use Rattle.limits.specs.Answers.{findingOutcome}
+use Rattle.limits.specs.declared.LimitsAnswer.{LimitsAnswer}
 use Rattle.counts.specs.Counts.{countingOutcome}
 use Rattle.counts.specs.declared.CommandCounts.{CommandCounts}
 use Rattle.counts.specs.declared.CountsAnswer.{CountsAnswer}
@@ -52,6 +55,7 @@ refusals =
     ∷ none
     ∷ some ShortRefresh
     ∷ some Wiring
+    ∷ some Limits
     ∷ []
 
 abbrev named : ℕ → Option Refusal
@@ -72,6 +76,7 @@ named-is PartialWord = refl
 named-is TooLong = refl
 named-is ShortRefresh = refl
 named-is Wiring = refl
+named-is Limits = refl
 
 abbrev orState : Option Refusal → Refusal
 orState none = State
@@ -120,6 +125,17 @@ unfolding verdict
 verdict-is Verdict.Accepted = refl
 verdict-is (Verdict.InBreach b) = refl
 verdict-is (Verdict.Refused r) = ap Verdict.Refused (refusal-is r)
+
+within : Outcome Finding → LimitsAnswer
+within (value always) = LimitsAnswer.Always
+within (value (breachOn c k n)) = LimitsAnswer.InBreach c (record { clock = k; number = n })
+within (refused n) = LimitsAnswer.Refused (refusal n)
+
+within-is : (x : LimitsAnswer) → within (findingOutcome x) ≡ x
+unfolding within
+within-is LimitsAnswer.Always = refl
+within-is (LimitsAnswer.InBreach c b) = refl
+within-is (LimitsAnswer.Refused r) = ap LimitsAnswer.Refused (refusal-is r)
 
 -- number 0 is no refusal's
 counted : Option Refusal → CommandCounts → CountsAnswer
@@ -174,6 +190,7 @@ answers =
       write = inverted writeOutcome write write-is;
       verdict = same-verdict;
       step = λ x y e i. record { verdict = same-verdict (x .verdict) (y .verdict) (ap (λ r. r .outcome) e) i; checker = e i .after };
+      within = inverted findingOutcome within within-is;
       counting = same-counting;
       call = same-call;
       offer = λ x y e i. record { answer = same-call (x .answer) (y .answer) (ap (λ r. r .outcome) e) i; controller = e i .after };

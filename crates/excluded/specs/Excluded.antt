@@ -27,6 +27,7 @@ use Rattle.protocol.specs.Steps.{verdictOutcome, stepped, fresh, stepOf}
 use Rattle.protocol.specs.declared.checker.Breach.{Breach}
 use Rattle.protocol.specs.declared.checker.Checker.{Checker}
 use Rattle.protocol.specs.declared.checker.Verdict.{Verdict}
+use Rattle.limits.specs.Answers.{findingOutcome}
 use Rattle.counts.specs.Counts.{countsOf, noCounts, countingOutcome, countingOf}
 use Rattle.counts.specs.declared.CommandCounts.{CommandCounts}
 use Rattle.counts.specs.declared.CountsAnswer.{CountsAnswer}
@@ -192,6 +193,8 @@ pub record Answers : Type 0 where
   -- `check`, `check_bytes`; with the state, `Checker::step`
   pub verdict : Injective verdictOutcome
   pub step : Injective stepped
+  -- `check_within`
+  pub within : Injective findingOutcome
   -- `count_commands`
   pub counting : Injective countingOutcome
   -- the calls on a borrowed controller; with the state, `Controller::offer` and `Controller::tick`

@@ -1,5 +1,7 @@
--- The theorems of specs/Dependence (Monotone, by what Kept has of each rule) and of specs/Relaxed (Relaxed).
+-- The theorems of specs/Dependence (Monotone, by what Kept has of each rule) and of specs/Relaxed (Relaxed, by the rows of two sheets, and
+-- by how long an accepted trace is).
 pub mod Kept
 pub mod Monotone
-pub mod Limits
+pub mod Rows
+pub mod Lengths
 pub mod Relaxed

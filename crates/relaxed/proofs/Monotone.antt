@@ -12,7 +12,7 @@ use Rattle.rules.specs.Verdict.{Judgement, accepted, lead, judgeFrom}
 use Rattle.relaxed.specs.Dependence.{Dependence, dependences, Every, NoStricter, Suffices, Witness, Monotone}
 use Rattle.relaxed.proofs.Kept.{kept}
 
-pub every-map : {A : Type 0} {P Q : A → Type 0} (xs : List A) → ((x : A) → P x → Q x) → Every P xs → Every Q xs
+every-map : {A : Type 0} {P Q : A → Type 0} (xs : List A) → ((x : A) → P x → Q x) → Every P xs → Every Q xs
 every-map [] f h = tt
 every-map (x ∷ xs) f h = (f x (h .0), every-map xs f (h .1))
 

@@ -1,14 +1,13 @@
 -- The theorem of specs/Relaxed: the timing of the second sheet is no stricter to any rule, so the first is a witness for each. A trace that
 -- steps or a walk accept is one that the whole check takes. Assumes nothing.
-use Prim.Native.Nat.{ℕ, _+_, _-_, _/_, _%_, _≤_, _<_}
+use Prim.Native.Nat.{ℕ, _+_, _/_, _%_, _≤_, _<_}
 use mathlib.Core.Path.{_≡_, refl, sym, _∙_, ap}
-use mathlib.Core.Bool.{cond}
 use mathlib.Core.List.{List}
 use native.Mathlib.Omega.{arith}
 use lib.ListN.{length}
 use lib.Dec.{eqb, leb}
 use Rattle.basics.specs.Outcome.{value}
-use Rattle.config.specs.Configuration.{rcOf, derived}
+use Rattle.config.specs.Configuration.{derived}
 use Rattle.config.specs.declared.Config.{Config}
 use Rattle.config.specs.declared.Timing.{Timing}
 use Rattle.words.specs.Words.{wordsOf}
@@ -20,14 +19,9 @@ use Rattle.basics.proofs.Outcomes.{require-value}
 use Rattle.config.proofs.Accepted.{behind}
 use Rattle.protocol.proofs.Refinement.{refinement}
 use Rattle.walks.proofs.Walk.{walk}
-use Rattle.relaxed.specs.Dependence.{Dependence, dependences, Every, NoStricter, Witness}
 use Rattle.relaxed.specs.Relaxed.{Relaxed, StillAccepted}
-use Rattle.relaxed.proofs.Kept.{_▸_}
-use Rattle.relaxed.proofs.Monotone.{every-map, monotone}
-use Rattle.relaxed.proofs.Limits.{step-limit, walk-limit, stop-accepted}
-
-le-eq : {m n : ℕ} → m ≡ n → m ≤ n
-le-eq e = omega arith
+use Rattle.relaxed.proofs.Rows.{le-eq, passes}
+use Rattle.relaxed.proofs.Lengths.{step-limit, walk-limit, stop-accepted}
 
 module _ (a b : Config) (r : Relaxed a b) where
   abbrev s : Timing
@@ -36,41 +30,14 @@ module _ (a b : Config) (r : Relaxed a b) where
   abbrev t : Timing
   t = derived b
 
-  -- RC, WL, D and W follow from CL and the period
-  rc : t .rc ≤ s .rc
-  rc = le-eq (ap rcOf (r .cl))
-
-  cl : t .cl ≤ s .cl
-  cl = le-eq (r .cl)
-
-  bl : t .bl ≤ s .bl
-  bl = le-eq (r .bl)
-
-  wl : t .wl ≤ s .wl
-  wl = le-eq (ap (λ n. n - 1) (r .cl))
-
-  no-stricter : Every (λ d. NoStricter d s t) dependences
-  no-stricter =
-      (tt, tt, tt)
-      ▸ (tt, rc ▸ cl ▸ bl ▸ wl ▸ r .rsc ▸ r .refc ▸ tt, tt)
-      ▸ (tt, tt, le-eq (ap (λ n. 3900000 / n) (sym (r .period))) ▸ tt)
-      ▸ (r .cl ▸ r .bl ▸ tt, tt, tt)
-      ▸ (r .bl ▸ r .organisation ▸ tt, tt, tt)
-      ▸ (tt, tt, tt)
-      ▸ (ap (λ n. cond (eqb n 4) 4 8) (r .wiring) ▸ tt, rc ▸ tt, tt)
-      ▸ (tt, r .rbd ▸ r .rwd ▸ r .wrd ▸ tt, tt)
-      ▸ (tt, r .rsc ▸ tt, tt)
-      ▸ (tt, r .refc ▸ tt, tt)
-      ▸ (tt, rc ▸ cl ▸ bl ▸ wl ▸ tt, tt)
-      ▸ (tt, le-eq (ap (λ n. 3200000 / n + 1) (r .period)) ▸ tt, tt)
-      ▸ (tt, tt, tt)
-      ▸ tt
-
-  witness : (words : List ℕ) → judge s words ≡ accepted → (d : Dependence) → NoStricter d s t → Witness t words d
-  witness words e d l = record { timing = s; no-stricter = l; passes = e }
-
+  -- the first is the witness for each rule: D and W follow from the period
   judged : (words : List ℕ) → judge s words ≡ accepted → judge t words ≡ accepted
-  judged words e = monotone .passes t words (every-map dependences (witness words e) no-stricter)
+  judged words e =
+      passes a b (r .cl) (r .bl) (r .organisation) (r .wiring) (r .rbd) (r .rwd) (r .wrd) (r .rsc) (r .refc)
+      (le-eq (ap (λ n. 3900000 / n) (sym (r .period))))
+      s
+      (le-eq (ap (λ n. 3200000 / n + 1) (r .period)))
+      words e e
 
   check : (words : List ℕ) → checkOf a words ≡ value accepted → checkOf b words ≡ value accepted
   check words e =

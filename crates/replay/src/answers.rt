@@ -2,12 +2,14 @@
 use basics::Refusal;
 use command::Operation;
 use command::Request;
+use config::Config;
 use config::TimingAnswer;
 use controller::CallAnswer;
 use controller::Controller;
 use counts::CommandCounts;
 use counts::CountsAnswer;
 use libc::STDOUT_FILENO;
+use limits::LimitsAnswer;
 use protocol::Breach;
 use protocol::Verdict;
 use reading::ReadAnswer;
@@ -101,10 +103,14 @@ pub(crate) fn written(answer: WriteAnswer) {
     }
 }
 
-fn in_breach(breach: Breach) {
+fn breached(breach: Breach) {
     text(b"breach");
     number(breach.clock);
     number(breach.number);
+}
+
+fn in_breach(breach: Breach) {
+    breached(breach);
     end();
 }
 
@@ -143,6 +149,35 @@ pub(crate) fn checked(verdict: Verdict, count: u32) {
         }
         Verdict::InBreach(breach) => in_breach(breach),
         Verdict::Refused(why) => refused(why),
+    }
+}
+
+// The eleven numbers of a sheet.
+pub(crate) fn sheet(config: Config) {
+    number(config.grade);
+    number(config.cl);
+    number(config.bl);
+    number(config.organisation);
+    number(config.period.0);
+    number(config.rbd.0);
+    number(config.rwd.0);
+    number(config.wrd.0);
+    number(config.rsc.0);
+    number(config.refc.0);
+    number(config.wiring);
+}
+
+// What is found on the sheets in limits, with the sheet that is shown.
+pub(crate) fn found(answer: LimitsAnswer) {
+    match answer {
+        LimitsAnswer::Always => text(b"always\n"),
+        LimitsAnswer::InBreach(config, breach) => {
+            breached(breach);
+            text(b" on");
+            sheet(config);
+            end();
+        }
+        LimitsAnswer::Refused(why) => refused(why),
     }
 }
 

@@ -3,29 +3,15 @@ use crate::answers::end;
 use crate::answers::fields;
 use crate::answers::five;
 use crate::answers::number;
+use crate::answers::sheet;
 use crate::answers::text;
 use command::Request;
-use config::Config;
 use controller::CallAnswer;
 use controller::Controller;
 use counts::CountsAnswer;
 use protocol::Checker;
 use scheduler::OpenPair;
 use stamps::Timestamps;
-
-fn sheet(config: Config) {
-    number(config.grade);
-    number(config.cl);
-    number(config.bl);
-    number(config.organisation);
-    number(config.period.0);
-    number(config.rbd.0);
-    number(config.rwd.0);
-    number(config.wrd.0);
-    number(config.rsc.0);
-    number(config.refc.0);
-    number(config.wiring);
-}
 
 fn eight(clocks: [u32; 8]) {
     for i in 0..8 {

@@ -2,13 +2,9 @@
 use crate::script::ahead;
 use crate::script::word;
 
-// The code, the number of words, and the words; none for more than any script holds.
-fn of_trace(count: u32) -> usize {
-    let length = count as usize;
-    if 65536 < length {
-        return 0;
-    }
-    2 + length
+// What stands before the words of a trace, and these; none for more than any script holds.
+fn of_trace(before: usize, count: u32) -> usize {
+    ahead(before, count as usize)
 }
 
 // The code and an operation, whose length goes by its kind.
@@ -37,7 +33,8 @@ fn size(bytes: &[u8], at: usize) -> usize {
         1 => 11,
         13 => 12,
         2 | 6 => 3,
-        3 | 8 | 10 | 107 | 108 => of_trace(word(bytes, at, 1)),
+        3 | 8 | 10 | 107 | 108 => of_trace(2, word(bytes, at, 1)),
+        15 => of_trace(13, word(bytes, at, 12)),
         4 | 11 => 7,
         5 | 12 => 2,
         7 => of_operation(word(bytes, at, 1)),

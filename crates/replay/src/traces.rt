@@ -2,11 +2,13 @@
 use crate::answers;
 use crate::script::ahead;
 use crate::script::loaded;
+use crate::script::wired_at;
 use crate::script::word;
 use crate::shown;
 use crate::states::checker_at;
 use config::Config;
 use lending::advance_through;
+use limits::check_within;
 use protocol::Checker;
 use protocol::Stepped;
 use protocol::Verdict;
@@ -91,31 +93,26 @@ fn walk(words: &[u32], config: Config) {
     advanced(advance_through(words, stopped));
 }
 
-// 3: the whole check. 8 and 107: count the commands. 10: a walk. 108: one advance.
-fn on_words(code: u32, count: u32, words: &[u32], config: Config, checker: Checker) -> Checker {
+// 3: the whole check. 8 and 107: count the commands. 10: a walk. 15: the check in the limits of two sheets. 108: one advance.
+fn on_words(bytes: &[u8], at: usize, words: &[u32], config: Config, checker: Checker) -> Checker {
+    let code = word(bytes, at, 0);
     match code {
-        3 => answers::checked(wordcheck::check(config, words), count),
+        3 => answers::checked(wordcheck::check(config, words), word(bytes, at, 1)),
         8 => answers::counted(counts::count_commands(words)),
         10 => walk(words, config),
+        15 => answers::found(check_within(config, wired_at(bytes, ahead(at, 1)), words)),
         107 => shown::counted(counts::count_commands(words)),
         _ => return advanced(advance_through(words, checker)),
     }
     checker
 }
 
-// A call on the words of a trace.
-fn trace(bytes: &[u8], at: usize, config: Config, checker: Checker) -> Checker {
-    let count = word(bytes, at, 1);
-    let length = count as usize;
-    let buffer = loaded(bytes, ahead(at, 2));
+// A call on the words of a trace, with the place of their count.
+fn trace(bytes: &[u8], at: usize, count: usize, config: Config, checker: Checker) -> Checker {
+    let length = word(bytes, at, count) as usize;
+    let buffer = loaded(bytes, ahead(ahead(at, count), 1));
     if length <= 16384 {
-        return on_words(
-            word(bytes, at, 0),
-            count,
-            &buffer[..length],
-            config,
-            checker,
-        );
+        return on_words(bytes, at, &buffer[..length], config, checker);
     }
     checker
 }
@@ -126,7 +123,8 @@ pub(crate) fn after(bytes: &[u8], at: usize, config: Config, checker: Checker) -
     match code {
         1 | 13 => Checker::fresh(config),
         2 => step(checker, word(bytes, at, 1), word(bytes, at, 2)),
-        3 | 8 | 10 | 107 | 108 => trace(bytes, at, config, checker),
+        3 | 8 | 10 | 107 | 108 => trace(bytes, at, 1, config, checker),
+        15 => trace(bytes, at, 12, config, checker),
         101 => checker_at(bytes, ahead(at, 1)),
         103 => {
             shown::checker(checker);

@@ -38,6 +38,8 @@ everywhere c n e =
       check = λ words. given-refused (timingOf c) _ e;
       check-bytes = bytes;
       site = λ bs. ap numberOf (bytes bs);
+      within = λ b words. given-refused (timingOf c) _ e;
+      within-second = λ a t words h. rw h (given-refused (timingOf c) _ e);
       step = stepped;
       advance =
           λ s words h.

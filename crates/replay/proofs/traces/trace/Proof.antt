@@ -15,11 +15,11 @@ cast-length c = search needs
 ahead-requires : tie.Need-ahead-requires
 ahead-requires c κs = search needs
 
+ahead-requires-2 : tie.Need-ahead-requires-2
+ahead-requires-2 c κs = search needs
+
 loaded-requires : tie.Need-loaded-requires
 loaded-requires c κs = search needs
-
-word-requires-2 : tie.Need-word-requires-2
-word-requires-2 c κs = search needs
 
 array-share-prefix-buffer : tie.Need-array-share-prefix-buffer
 array-share-prefix-buffer c = search needs
@@ -27,7 +27,7 @@ array-share-prefix-buffer c = search needs
 slice-aggregate-on-words : tie.Need-slice-aggregate-on-words
 slice-aggregate-on-words c =
     let length = c .before .before .before .before .before .word .result in
-    let buffer = c .before .before .before .loaded .result in
+    let buffer = c .before .before .loaded .result in
     sym (length-take-le length buffer (omega arith))
 
 on-words-requires : tie.Need-on-words-requires
@@ -46,8 +46,8 @@ trace-spec =
     word-requires
     cast-length
     ahead-requires
+    ahead-requires-2
     loaded-requires
-    word-requires-2
     array-share-prefix-buffer
     slice-aggregate-on-words
     on-words-requires
