@@ -1,6 +1,6 @@
 -- The call on limits that it takes is the check on the one sheet, and where that is accepted, on the other. Assumes nothing.
 use Prim.Native.Nat.{ℕ}
-use mathlib.Core.Path.{_≡_, refl, sym, _∙_, ap}
+use mathlib.Core.Path.{_≡_, refl}
 use mathlib.Core.Bool.{Bool, true, false, _&&_}
 use mathlib.Core.List.{List}
 use lib.ListN.{length}
@@ -8,14 +8,8 @@ use lib.Dec.{leb}
 use Rattle.basics.specs.Outcome.{Outcome, value, refused, require, given}
 use Rattle.config.specs.Configuration.{derived, timingOf}
 use Rattle.config.specs.declared.Config.{Config}
-use Rattle.config.specs.declared.Timing.{Timing}
-use Rattle.config.proofs.Accepted as config
 use Rattle.rules.specs.Verdict.{Judgement, accepted, breach, judge, checkOf}
 use Rattle.limits.specs.Limits.{alike, nowhereAbove, Finding, always, breachOn, shown, withinOf}
-
--- an accepted sheet has its own figures
-pub as-derived : (c : Config) (t : Timing) → timingOf c ≡ value t → timingOf c ≡ value (derived c)
-as-derived c t e = e ∙ ap value (sym (config.accepted c t e .1))
 
 -- the trace on one sheet
 abbrev pub foundOn : Config → List ℕ → Outcome Finding

@@ -4,6 +4,7 @@ use Prim.Native.Nat.{ℕ, _+_, _/_, _%_, _≤_, _<_}
 use mathlib.Core.Path.{_≡_, refl, sym, _∙_, ap}
 use mathlib.Core.List.{List}
 use native.Mathlib.Omega.{arith}
+use native.Mathlib.Nat.{le-of-eq}
 use lib.ListN.{length}
 use lib.Dec.{eqb, leb}
 use Rattle.basics.specs.Outcome.{value}
@@ -20,7 +21,7 @@ use Rattle.config.proofs.Accepted.{behind}
 use Rattle.protocol.proofs.Refinement.{refinement}
 use Rattle.walks.proofs.Walk.{walk}
 use Rattle.relaxed.specs.Relaxed.{Relaxed, StillAccepted}
-use Rattle.relaxed.proofs.Rows.{le-eq, passes}
+use Rattle.relaxed.proofs.Rows.{passes}
 use Rattle.relaxed.proofs.Lengths.{step-limit, walk-limit, stop-accepted}
 
 module _ (a b : Config) (r : Relaxed a b) where
@@ -34,9 +35,9 @@ module _ (a b : Config) (r : Relaxed a b) where
   judged : (words : List ℕ) → judge s words ≡ accepted → judge t words ≡ accepted
   judged words e =
       passes a b (r .cl) (r .bl) (r .organisation) (r .wiring) (r .rbd) (r .rwd) (r .wrd) (r .rsc) (r .refc)
-      (le-eq (ap (λ n. 3900000 / n) (sym (r .period))))
+      (le-of-eq (ap (λ n. 3900000 / n) (sym (r .period))))
       s
-      (le-eq (ap (λ n. 3200000 / n + 1) (r .period)))
+      (le-of-eq (ap (λ n. 3200000 / n + 1) (r .period)))
       words e e
 
   check : (words : List ℕ) → checkOf a words ≡ value accepted → checkOf b words ≡ value accepted

@@ -5,7 +5,7 @@ use Prim.Native.Nat.{ℕ, _-_, _≤_}
 use mathlib.Core.Path.{_≡_, ap}
 use mathlib.Core.Bool.{cond}
 use mathlib.Core.List.{List}
-use native.Mathlib.Omega.{arith}
+use native.Mathlib.Nat.{le-of-eq}
 use lib.Dec.{eqb}
 use Rattle.config.specs.Configuration.{rcOf, derived}
 use Rattle.config.specs.declared.Config.{Config}
@@ -14,9 +14,6 @@ use Rattle.rules.specs.Verdict.{accepted, judge}
 use Rattle.relaxed.specs.Dependence.{Dependence, NoStricter, Witness}
 use Rattle.relaxed.proofs.Kept.{_▸_}
 use Rattle.relaxed.proofs.Monotone.{monotone}
-
-pub le-eq : {m n : ℕ} → m ≡ n → m ≤ n
-le-eq e = omega arith
 
 module _ (a b : Config) (cl : b .cl ≡ a .cl) (bl : b .bl ≡ a .bl) (organisation : b .organisation ≡ a .organisation)
     (wiring : b .wiring ≡ a .wiring) (rbd : b .rbd .0 ≤ a .rbd .0) (rwd : b .rwd .0 ≤ a .rwd .0) (wrd : b .wrd .0 ≤ a .wrd .0)
@@ -29,16 +26,16 @@ module _ (a b : Config) (cl : b .cl ≡ a .cl) (bl : b .bl ≡ a .bl) (organisat
 
   -- RC and WL follow from CL
   rc : t .rc ≤ s .rc
-  rc = le-eq (ap rcOf cl)
+  rc = le-of-eq (ap rcOf cl)
 
   same-cl : t .cl ≤ s .cl
-  same-cl = le-eq cl
+  same-cl = le-of-eq cl
 
   same-bl : t .bl ≤ s .bl
-  same-bl = le-eq bl
+  same-bl = le-of-eq bl
 
   wl : t .wl ≤ s .wl
-  wl = le-eq (ap (λ n. n - 1) cl)
+  wl = le-of-eq (ap (λ n. n - 1) cl)
 
   witness : {words : List ℕ} {d : Dependence} (u : Timing) → judge u words ≡ accepted → NoStricter d u t → Witness t words d
   witness u e n = record { timing = u; no-stricter = n; passes = e }

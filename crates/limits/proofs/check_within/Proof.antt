@@ -8,13 +8,13 @@ use Rattle.config.specs.declared.Config.{Config}
 use Rattle.config.specs.declared.Timing.{Timing}
 use Rattle.config.specs.declared.TimingAnswer.{TimingAnswer}
 use Rattle.config.specs.declared.TimingAnswer.the-variants.{Accepted}
-use Rattle.limits.proofs.Both.{as-derived}
+use Rattle.config.proofs.Accepted.{accepted, timing-is}
 use Rattle.limits.proofs.check_within.Statement.{statement}
 use Rattle.limits.proofs.check_within.Tie as tie
 
 -- what is known of a sheet that is not refused
 known : (c : Config) (r : TimingAnswer) (t : Timing) → timingOutcome r ≡ timingOf c → r ≡ Accepted t → timingOf c ≡ value (derived c)
-known c r t e h = as-derived c t (sym e ∙ ap timingOutcome h)
+known c r t e h = timing-is c (accepted c t (sym e ∙ ap timingOutcome h) .0)
 
 timing-requires : tie.Need-timing-requires
 timing-requires c κs = search needs
