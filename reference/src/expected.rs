@@ -12,6 +12,7 @@ use crate::past::Past;
 use crate::script::{bytes, Call, PairNumbers};
 use crate::sheet::{Sheet, NUMBERS, SHEET_E};
 use crate::state::{self, CheckerNumbers, ControllerNumbers};
+use crate::time;
 use crate::walk::Walk;
 use crate::word::DESL;
 use std::fmt::Write;
@@ -64,6 +65,7 @@ impl Player {
             Call::Step { count, word } => self.step(*count, *word),
             Call::Check(words) => self.check(words),
             Call::CheckWithin(greatest, words) => self.check_within(*greatest, words),
+            Call::Time(count) => lines::time(time::length(&self.sheet, *count)),
             // A lent controller answers and is left as one that is handed back.
             Call::Offer(numbers) | Call::OfferLent(numbers) => self.offer(*numbers),
             Call::Tick(count) | Call::TickLent(count) => self.tick(*count),

@@ -27,6 +27,7 @@ pub mod shown;
 pub mod state;
 pub mod suites;
 pub mod summary;
+pub mod time;
 pub mod walk;
 pub mod wiring;
 pub mod word;

@@ -3,6 +3,7 @@
 use crate::checker::Step;
 use crate::limits::Shown;
 use crate::pair::Operation;
+use crate::time::Time;
 use crate::walk::Move;
 
 /// The line of a refusal.
@@ -31,6 +32,14 @@ pub fn shown(shown: &Shown) -> String {
     let Shown { clock, number, .. } = shown;
     let breach = format!("breach {clock} {number} on");
     numbered(&breach, &shown.sheet.numbers())
+}
+
+/// The line of a length in time.
+pub fn time(length: Result<Time, u32>) -> String {
+    match length {
+        Ok(Time { nanoseconds, rest }) => format!("time {nanoseconds} {rest}\n"),
+        Err(number) => refused(number),
+    }
 }
 
 /// The line of an operation that was read.

@@ -33,6 +33,8 @@ pub enum Call {
     TickLent(u32),
     /// Test the configuration with its wiring and start afresh on it.
     ConfigWired([u32; NUMBERS]),
+    /// The length in time of a trace of so many words.
+    Time(u32),
     /// The whole check on every sheet from the configuration to this one.
     CheckWithin([u32; NUMBERS], Vec<u32>),
     /// Put the checker into a state.
@@ -82,6 +84,7 @@ impl Call {
             Call::OfferLent(_) => 11,
             Call::TickLent(_) => 12,
             Call::ConfigWired(_) => 13,
+            Call::Time(_) => 14,
             Call::CheckWithin(..) => 15,
             Call::PutChecker(_) => 101,
             Call::PutController(_) => 102,
@@ -114,7 +117,7 @@ impl Call {
             Call::Check(words) | Call::Count(words) | Call::Walk(words) => counted(words),
             Call::CountAnyway(words) | Call::Advance(words) => counted(words),
             Call::Offer(request) | Call::OfferLent(request) => request.to_vec(),
-            Call::Tick(count) | Call::TickLent(count) => vec![*count],
+            Call::Tick(count) | Call::TickLent(count) | Call::Time(count) => vec![*count],
             Call::ReadPair(first, second) => vec![*first, *second],
             Call::WritePair(PairNumbers::Access(request)) => [&[0], &request[..]].concat(),
             Call::WritePair(PairNumbers::Regular(a3)) => vec![1, *a3],
@@ -155,6 +158,7 @@ impl Call {
             11 => Call::OfferLent(some(rest)?),
             12 => Call::TickLent(one(rest)?),
             13 => Call::ConfigWired(some(rest)?),
+            14 => Call::Time(one(rest)?),
             15 => Call::CheckWithin(some(rest)?, counted(rest)?),
             101 => Call::PutChecker(Box::new(some(rest)?)),
             102 => Call::PutController(Box::new(

@@ -10,7 +10,7 @@ use std::process::exit;
 use std::time::{Duration, Instant};
 
 const USAGE: &str = "compare --replay PATH|self [--scale N] \
-    [pairs] [checker] [controller] [scripts] [states] [relaxed] [limits]";
+    [pairs] [checker] [controller] [scripts] [states] [relaxed] [limits] [time]";
 
 /// The program under comparison: a file, or none to play the scripts on this implementation.
 struct Program(Option<PathBuf>);

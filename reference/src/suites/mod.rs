@@ -5,6 +5,7 @@ pub mod checker;
 pub mod controller;
 mod damage;
 mod ending;
+mod held;
 pub mod limits;
 pub mod load;
 pub mod long;
@@ -21,6 +22,7 @@ pub mod sleep;
 mod sleep_ending;
 pub mod states;
 pub mod tally;
+pub mod time;
 pub mod trace;
 
 use crate::coverage::Coverage;
@@ -45,7 +47,7 @@ pub struct Suite {
 }
 
 /// All suites, in the order in which they run.
-pub const SUITES: [Suite; 7] = [
+pub const SUITES: [Suite; 8] = [
     Suite {
         name: "pairs",
         seed: 0x5EED_0001,
@@ -94,6 +96,13 @@ pub const SUITES: [Suite; 7] = [
         cases: limits::cases,
         promised: limits::promised,
         promise: None,
+    },
+    Suite {
+        name: "time",
+        seed: 0x5EED_000C,
+        cases: time::cases,
+        promised: time::promised,
+        promise: Some(time::check),
     },
 ];
 

@@ -1,7 +1,7 @@
 //! The script itself: calls of all codes mixed, the configuration at the start, and scripts that
 //! are refused whole or from some call on.
 
-use super::{configs, limits, names, pool, sheets, sleep, trace};
+use super::{configs, limits, names, pool, sheets, sleep, time, trace};
 use crate::coverage::Coverage;
 use crate::random::Random;
 use crate::script::{bytes, Call, Packer, PairNumbers};
@@ -25,6 +25,7 @@ pub fn promised() -> Vec<String> {
     promised.extend(names(10, &["end"]));
     promised.extend(names(11, &["offered"]));
     promised.extend(names(12, &["clock"]));
+    promised.extend(names(14, &["time", "refused 32"]));
     promised.extend(names(15, &["always", "breach 6", "refused 35"]));
     promised
 }
@@ -105,7 +106,7 @@ fn some_call(random: &Random, sheet: &Sheet) -> Call {
     let (first, second) = pool::noisy(random, &fit, kind, &operation);
     let low = sleep::low_word(random);
     let request = some_request(random, &fit);
-    match random.below(22) {
+    match random.below(23) {
         0 if random.once_in(3) => pool::config(random, &random.pick(&sheets::refused())),
         0 => pool::config(random, &pool::sheet(random)),
         1..=3 => Call::Step {
@@ -129,6 +130,7 @@ fn some_call(random: &Random, sheet: &Sheet) -> Call {
         18 => Call::Count(vec![low, low & !CS, first, second, low, first]),
         19 => Call::Walk([low, DESL, DESL, first, second][..random.below(6) as usize].to_vec()),
         20 => some_within(random, &fit, &[low, DESL, DESL, first, second]),
+        21 => Call::Time(time::some_count(random)),
         _ => Call::Waiting,
     }
 }

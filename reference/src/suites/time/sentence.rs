@@ -1,0 +1,70 @@
+//! The paper's sentence about time, held to what a program wrote. Nothing of the reference's own sum is
+//! used here.
+
+use super::meet;
+use crate::judge::LONGEST;
+use crate::script::Call;
+use crate::sheet::{Sheet, SHEET_E};
+use std::iter::Peekable;
+use std::str::Lines;
+
+/// Checks each line that answers for a length in time. Gives names for the coverage, or the call at fault
+/// and what is wrong with its line.
+pub fn check(calls: &[Call], text: &str) -> Result<Vec<String>, (usize, String)> {
+    let mut lines = text.lines().peekable();
+    let mut sheet = SHEET_E;
+    let mut seen = Vec::new();
+    for (place, call) in calls.iter().enumerate() {
+        sheet = call.sheet().unwrap_or(sheet);
+        let line = last_line(call, &mut lines).unwrap_or("(no line)");
+        if let Call::Time(count) = *call {
+            if let Some(fault) = fault(&sheet, count, line) {
+                return Err((place, fault));
+            }
+            seen.extend(meet::names(&sheet, count, line));
+        }
+    }
+    Ok(seen)
+}
+
+/// Takes the lines of a call, and gives the last of them that tells how it ended, if it writes any.
+fn last_line<'a>(call: &Call, lines: &mut Peekable<Lines<'a>>) -> Option<&'a str> {
+    match call {
+        Call::PutChecker(_) | Call::PutController(_) => None,
+        Call::Tick(_) | Call::TickLent(_) => lines.find(|line| !line.starts_with("word ")),
+        Call::Walk(_) => lines.nth(1),
+        Call::Waiting => {
+            let line = lines.next();
+            while lines.next_if(|line| line.starts_with("request ")).is_some() {}
+            line
+        }
+        _ => lines.next(),
+    }
+}
+
+/// What is wrong with a line. The sheet's refusal is due, or else 32 for too many words, or else a time:
+/// nanoseconds times 1,000 plus the rest equals count times period, and the rest is below 1,000.
+fn fault(sheet: &Sheet, count: u32, line: &str) -> Option<String> {
+    let too_many = (count > LONGEST).then_some(32);
+    if let Some(number) = sheet.refusal().or(too_many) {
+        let due = format!("refused {number}");
+        return (line != due).then(|| format!("{line}: {due} is due"));
+    }
+    let Some((nanoseconds, rest)) = told(line) else {
+        return Some(format!("{line}: a time is due"));
+    };
+    let told = u128::from(nanoseconds) * 1_000 + u128::from(rest);
+    let product = u128::from(count) * u128::from(sheet.period);
+    if told != product {
+        return Some(format!("{line}: {told} ps, and {product} are due"));
+    }
+    (rest >= 1_000).then(|| format!("{line}: the rest is not below 1,000"))
+}
+
+/// The nanoseconds and the rest that a line tells; none for a line of any other form.
+pub fn told(line: &str) -> Option<(u64, u64)> {
+    let (nanoseconds, rest) = line.strip_prefix("time ")?.split_once(' ')?;
+    let told: (u64, u64) = (nanoseconds.parse().ok()?, rest.parse().ok()?);
+    // A number with a sign or a 0 before it can be read, and is not how it should be written.
+    (format!("time {} {}", told.0, told.1) == line).then_some(told)
+}
