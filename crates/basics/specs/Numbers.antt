@@ -1,7 +1,7 @@
 -- The number of each refusal.
 use Prim.Native.Nat.{ℕ}
 use Rattle.basics.specs.declared.refusal.Refusal.{Refusal}
-use Rattle.basics.specs.declared.refusal.Refusal.the-variants.{State, Part, Period, Count, InBreach, ClockLimit, InputSize, Field, QueueFull, NotAPair, PartialWord, TooLong, ShortRefresh, Wiring, Limits}
+use Rattle.basics.specs.declared.refusal.Refusal.the-variants.{State, Part, Period, Count, InBreach, ClockLimit, InputSize, Field, QueueFull, NotAPair, PartialWord, TooLong, WordCount, ShortRefresh, Wiring, Limits}
 
 -- the number behind the dot in section 6 of RULES
 abbrev pub refusalNumber : Refusal → ℕ
@@ -17,6 +17,7 @@ refusalNumber QueueFull = 27
 refusalNumber NotAPair = 28
 refusalNumber PartialWord = 29
 refusalNumber TooLong = 30
+refusalNumber WordCount = 32
 refusalNumber ShortRefresh = 33
 refusalNumber Wiring = 34
 refusalNumber Limits = 35

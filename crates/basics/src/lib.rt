@@ -5,7 +5,7 @@ pub use refusal::Refusal;
 ghost use mathlib.Core.Path.{_≡_};
 ghost use mathlib.Core.Bool.{cond};
 
-// The traces that are judged have at most this many words; no state goes past this clock.
+// The traces that are judged or timed have at most this many words; no state goes past this clock.
 pub const LIMIT: u32 = 16777216;
 
 // x where the test holds, and otherwise y.

@@ -27,6 +27,8 @@ pub enum Refusal {
     PartialWord,
     // More than 65,536 words to count: 30.
     TooLong,
+    // More than 16,777,216 words to time: 32.
+    WordCount,
     // REFC below 18 at CL 4: 33.
     ShortRefresh,
     // A wiring other than 4 or 8: 34.
@@ -53,6 +55,7 @@ impl Refusal {
             Refusal::NotAPair => 28,
             Refusal::PartialWord => 29,
             Refusal::TooLong => 30,
+            Refusal::WordCount => 32,
             Refusal::ShortRefresh => 33,
             Refusal::Wiring => 34,
             Refusal::Limits => 35,

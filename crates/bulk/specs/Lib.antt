@@ -3,3 +3,4 @@ pub mod Numbers
 pub mod Walks
 pub mod Stored
 pub mod Shown
+pub mod Timed

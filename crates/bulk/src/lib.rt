@@ -1,7 +1,9 @@
-// Calls on long slices, for the tests alone: what the program `replay` cannot take, since its script is short.
+// Calls on long slices and large counts, for the tests alone: what the program `replay` cannot take, since its script is short and its
+// numbers have 32 bits.
 mod counting;
 mod number;
 mod shown;
+mod timed;
 mod walk;
 
 use config::Config;
@@ -9,12 +11,15 @@ use counting::counts_of;
 use counting::number_of;
 use counting::store;
 use counts::count_commands;
+use duration::trace_duration;
 use lending::advance_through;
 use limits::check_within;
 use number::of_progress;
 use number::of_verdict;
 use shown::of_answer;
 use shown::show;
+use timed::put_time;
+use timed::refusal_of;
 use walk::walk;
 ghost use mathlib.Core.Path.{_≡_};
 ghost use Rattle.rules.specs.Verdict.{checkOf};
@@ -23,6 +28,7 @@ ghost use Rattle.bulk.specs.Numbers.{sheetOf, checkNumber, findingNumber
 ghost use Rattle.bulk.specs.Walks.{walkOf, againOf};
 ghost use Rattle.bulk.specs.Stored.{stored};
 ghost use Rattle.bulk.specs.Shown.{foundOf, shownIn};
+ghost use Rattle.bulk.specs.Timed.{timedOf, timedNumber, timedIn};
 
 // The configuration that the eleven numbers of a sheet make.
 fn config_of(sheet: &[u32; 11]) -> Config
@@ -98,4 +104,15 @@ pub extern "C" fn bulk_count(words: &[u32], places: &mut [u32]) -> u32
     let answer = count_commands(words);
     store(counts_of(answer), places);
     number_of(answer)
+}
+
+// How long so many words last, put into the places: whole nanoseconds and the rest; 0 or the refusal's number.
+#[no_mangle]
+pub extern "C" fn bulk_duration(sheet: &[u32; 11], count: usize, places: &mut [u32; 2]) -> u32
+    ensures answer { λ r. ⌜ r ≡ timedNumber (timedOf (now (sheet .entry)) count) ⌝ }
+    ensures buffer { λ _. ⌜ now (places .exit) ≡ timedIn (timedOf (now (sheet .entry)) count) (now (places .entry)) ⌝ }
+{
+    let answer = trace_duration(config_of(sheet), count);
+    put_time(answer, places);
+    refusal_of(answer)
 }

@@ -1,5 +1,6 @@
 -- All eight cases of the paper's section "Clocks on either edge, sheet E" as one table, behind them those of the wiring, of power
--- down, of relaxed sheets and of limits, and one test that is computed over all of it. Case a goes by the words that are laid down.
+-- down, of relaxed sheets, of limits and of lengths in time, and one test that is computed over all of it. Case a goes by the words that
+-- are laid down.
 use Prim.Native.Nat.{ℕ}
 use mathlib.Core.Path.{_≡_, refl}
 use mathlib.Core.Bool.{Bool, true, false, cond}
@@ -15,13 +16,14 @@ use Rattle.cases.specs.WiringCases.{wiringCases}
 use Rattle.cases.specs.PowerDownCases.{powerDownCases}
 use Rattle.cases.specs.RelaxedCases.{relaxedCases}
 use Rattle.cases.specs.LimitsCases.{limitsCases}
+use Rattle.cases.specs.DurationCases.{durationCases}
 
 -- the next words are these
 abbrev pub gives : Timing → Course → List ℕ → Bool
 gives t c [] = true
 gives t c (w ∷ ws) = let r = tick t c in cond (eqb (r .word) w) (gives t (r .after) ws) false
 
--- case a, then the rows of CheckerCases, WiringCases, PowerDownCases, RelaxedCases and LimitsCases
+-- case a, then the rows of CheckerCases, WiringCases, PowerDownCases, RelaxedCases, LimitsCases and DurationCases
 abbrev pub table : List Row
 table =
     -- a (RULES 8.5): a fresh controller that was offered this read gives the start-up, RDA at 201, and at every other clock C0000, at 200
@@ -32,6 +34,7 @@ table =
     ++ powerDownCases
     ++ relaxedCases
     ++ limitsCases
+    ++ durationCases
 
 -- every row is as it should be
 pub cases : agree table ≡ true

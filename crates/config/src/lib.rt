@@ -13,6 +13,9 @@ ghost use Rattle.config.specs.Answers.{timingOutcome};
 // A time in whole picoseconds: a type of its own, so that it is never taken for a count of clocks.
 pub struct Picoseconds(pub u32);
 
+// A time in whole nanoseconds.
+pub struct Nanoseconds(pub u32);
+
 // A count of clocks.
 pub struct Clocks(pub u32);
 

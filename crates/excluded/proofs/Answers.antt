@@ -10,7 +10,7 @@ use Rattle.config.specs.Answers.{timingOutcome}
 use Rattle.config.specs.declared.Timing.{Timing}
 use Rattle.config.specs.declared.TimingAnswer.{TimingAnswer}
 use Rattle.basics.specs.declared.refusal.Refusal.{Refusal}
-use Rattle.basics.specs.declared.refusal.Refusal.the-variants.{State, Part, Period, Count, InBreach, ClockLimit, InputSize, Field, QueueFull, NotAPair, PartialWord, TooLong, ShortRefresh, Wiring, Limits}
+use Rattle.basics.specs.declared.refusal.Refusal.the-variants.{State, Part, Period, Count, InBreach, ClockLimit, InputSize, Field, QueueFull, NotAPair, PartialWord, TooLong, WordCount, ShortRefresh, Wiring, Limits}
 use Rattle.reading.specs.Answers.{readOutcome}
 use Rattle.writing.specs.Answers.{writeOutcome}
 use Rattle.command.specs.declared.operation.Operation.{Operation}
@@ -23,6 +23,9 @@ use Rattle.protocol.specs.declared.checker.Verdict.{Verdict}
 use Rattle.limits.specs.Limits.{Finding, always, breachOn}
 use Rattle.limits.specs.Answers.{findingOutcome}
 use Rattle.limits.specs.declared.LimitsAnswer.{LimitsAnswer}
+use Rattle.duration.specs.Answers.{durationOutcome}
+use Rattle.duration.specs.declared.Duration.{Duration}
+use Rattle.duration.specs.declared.DurationAnswer.{DurationAnswer}
 use Rattle.counts.specs.Counts.{countingOutcome}
 use Rattle.counts.specs.declared.CommandCounts.{CommandCounts}
 use Rattle.counts.specs.declared.CountsAnswer.{CountsAnswer}
@@ -52,7 +55,7 @@ refusals =
     ∷ some PartialWord
     ∷ some TooLong
     ∷ none
-    ∷ none
+    ∷ some WordCount
     ∷ some ShortRefresh
     ∷ some Wiring
     ∷ some Limits
@@ -74,6 +77,7 @@ named-is QueueFull = refl
 named-is NotAPair = refl
 named-is PartialWord = refl
 named-is TooLong = refl
+named-is WordCount = refl
 named-is ShortRefresh = refl
 named-is Wiring = refl
 named-is Limits = refl
@@ -137,6 +141,15 @@ within-is LimitsAnswer.Always = refl
 within-is (LimitsAnswer.InBreach c b) = refl
 within-is (LimitsAnswer.Refused r) = ap LimitsAnswer.Refused (refusal-is r)
 
+duration : Outcome Duration → DurationAnswer
+duration (value d) = DurationAnswer.Lasts d
+duration (refused n) = DurationAnswer.Refused (refusal n)
+
+duration-is : (x : DurationAnswer) → duration (durationOutcome x) ≡ x
+unfolding duration
+duration-is (DurationAnswer.Lasts d) = refl
+duration-is (DurationAnswer.Refused r) = ap DurationAnswer.Refused (refusal-is r)
+
 -- number 0 is no refusal's
 counted : Option Refusal → CommandCounts → CountsAnswer
 counted none c = CountsAnswer.Counted c
@@ -191,6 +204,7 @@ answers =
       verdict = same-verdict;
       step = λ x y e i. record { verdict = same-verdict (x .verdict) (y .verdict) (ap (λ r. r .outcome) e) i; checker = e i .after };
       within = inverted findingOutcome within within-is;
+      duration = inverted durationOutcome duration duration-is;
       counting = same-counting;
       call = same-call;
       offer = λ x y e i. record { answer = same-call (x .answer) (y .answer) (ap (λ r. r .outcome) e) i; controller = e i .after };

@@ -28,6 +28,7 @@ use Rattle.protocol.specs.declared.checker.Breach.{Breach}
 use Rattle.protocol.specs.declared.checker.Checker.{Checker}
 use Rattle.protocol.specs.declared.checker.Verdict.{Verdict}
 use Rattle.limits.specs.Answers.{findingOutcome}
+use Rattle.duration.specs.Answers.{durationOutcome}
 use Rattle.counts.specs.Counts.{countsOf, noCounts, countingOutcome, countingOf}
 use Rattle.counts.specs.declared.CommandCounts.{CommandCounts}
 use Rattle.counts.specs.declared.CountsAnswer.{CountsAnswer}
@@ -195,6 +196,8 @@ pub record Answers : Type 0 where
   pub step : Injective stepped
   -- `check_within`
   pub within : Injective findingOutcome
+  -- `trace_duration`
+  pub duration : Injective durationOutcome
   -- `count_commands`
   pub counting : Injective countingOutcome
   -- the calls on a borrowed controller; with the state, `Controller::offer` and `Controller::tick`

@@ -8,6 +8,7 @@ use controller::CallAnswer;
 use controller::Controller;
 use counts::CommandCounts;
 use counts::CountsAnswer;
+use duration::DurationAnswer;
 use libc::STDOUT_FILENO;
 use limits::LimitsAnswer;
 use protocol::Breach;
@@ -178,6 +179,19 @@ pub(crate) fn found(answer: LimitsAnswer) {
             end();
         }
         LimitsAnswer::Refused(why) => refused(why),
+    }
+}
+
+// The whole nanoseconds and the picoseconds left over.
+pub(crate) fn timed(answer: DurationAnswer) {
+    match answer {
+        DurationAnswer::Lasts(duration) => {
+            text(b"time");
+            number(duration.whole.0);
+            number(duration.rest.0);
+            end();
+        }
+        DurationAnswer::Refused(why) => refused(why),
     }
 }
 

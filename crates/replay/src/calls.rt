@@ -8,6 +8,7 @@ use crate::script::word;
 use command::Operation;
 use command::Pair;
 use config::Config;
+use duration::trace_duration;
 
 fn tested(config: Config) -> Config {
     answers::config(config.timing());
@@ -43,13 +44,14 @@ fn operation_at(bytes: &[u8], at: usize) -> Operation {
     }
 }
 
-// 6: read the pair. 7: write the pair of an operation.
-pub(crate) fn pair(bytes: &[u8], at: usize, config: Config) {
+// Calls on the configuration alone. 6: read the pair. 7: write the pair of an operation. 14: the length in time of so many words.
+pub(crate) fn on_config(bytes: &[u8], at: usize, config: Config) {
     let code = word(bytes, at, 0);
     let numbers = ahead(at, 1);
     match code {
         6 => answers::read(reading::read_pair(config, pair_at(bytes, numbers))),
         7 => answers::written(writing::write_pair(config, operation_at(bytes, numbers))),
+        14 => answers::timed(trace_duration(config, word(bytes, numbers, 0) as usize)),
         _ => {}
     }
 }

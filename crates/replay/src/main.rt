@@ -46,7 +46,7 @@ fn run(bytes: &[u8]) {
             return;
         }
         config = calls::configure(bytes, at, config);
-        calls::pair(bytes, at, config);
+        calls::on_config(bytes, at, config);
         checker = traces::after(bytes, at, config, checker);
         controller = ticks::after(bytes, at, config, controller);
         at = next;

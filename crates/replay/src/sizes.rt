@@ -36,7 +36,7 @@ fn size(bytes: &[u8], at: usize) -> usize {
         3 | 8 | 10 | 107 | 108 => of_trace(2, word(bytes, at, 1)),
         15 => of_trace(13, word(bytes, at, 12)),
         4 | 11 => 7,
-        5 | 12 => 2,
+        5 | 12 | 14 => 2,
         7 => of_operation(word(bytes, at, 1)),
         9 | 103 | 104 | 105 | 106 => 1,
         101 => 37,

@@ -40,6 +40,7 @@ everywhere c n e =
       site = λ bs. ap numberOf (bytes bs);
       within = λ b words. given-refused (timingOf c) _ e;
       within-second = λ a t words h. rw h (given-refused (timingOf c) _ e);
+      duration = λ count. given-refused (timingOf c) _ e;
       step = stepped;
       advance =
           λ s words h.

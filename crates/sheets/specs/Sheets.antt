@@ -15,6 +15,7 @@ use Rattle.reading.specs.Reading.{readPair}
 use Rattle.writing.specs.Writing.{writePair}
 use Rattle.rules.specs.Verdict.{checkOf, checkBytesOf}
 use Rattle.limits.specs.Limits.{withinOf}
+use Rattle.duration.specs.Duration.{durationOf}
 use Rattle.fcram.specs.Number.{numberOf}
 use Rattle.protocol.specs.Steps.{refusing, stepOf}
 use Rattle.protocol.specs.declared.checker.Checker.{Checker}
@@ -48,6 +49,7 @@ pub record RefusedBy (n : ℕ) (c : Config) : Type 0 where
   -- as the least sheet of two, and as the greatest if the least is accepted
   pub within : (b : Config) (words : List ℕ) → withinOf c b words ≡ refused n
   pub within-second : (a : Config) (t : Timing) (words : List ℕ) → timingOf a ≡ value t → withinOf a c words ≡ refused n
+  pub duration : (count : ℕ) → durationOf c count ≡ refused n
   pub step : (s : Checker) (w : ℕ) → s .config ≡ c → stepOf s w ≡ refusing s n
   pub advance : (s : Checker) (words : List ℕ) → s .config ≡ c → moveOf s words ≡ staying s (refused n)
   -- these two by value and on a borrowed controller: both contracts cite them

@@ -48,8 +48,8 @@ returns-3 c = search needs
 configure-requires : tie.Need-configure-requires Inv-loop μ-loop
 configure-requires c κs = search needs
 
-pair-requires : tie.Need-pair-requires Inv-loop μ-loop
-pair-requires c κs = search needs
+on-config-requires : tie.Need-on-config-requires Inv-loop μ-loop
+on-config-requires c κs = search needs
 
 after-requires : tie.Need-after-requires Inv-loop μ-loop
 after-requires c κs = search needs
@@ -84,7 +84,7 @@ run-spec =
     script-refused-requires-3
     returns-3
     configure-requires
-    pair-requires
+    on-config-requires
     after-requires
     after-requires-2
     loop-less
