@@ -65,7 +65,7 @@ impl Player {
             Call::Step { count, word } => self.step(*count, *word),
             Call::Check(words) => self.check(words),
             Call::CheckWithin(greatest, words) => self.check_within(*greatest, words),
-            Call::Time(count) => lines::time(time::length(&self.sheet, *count)),
+            Call::Time(count) => lines::time(time::length(&self.sheet, (*count).into())),
             // A lent controller answers and is left as one that is handed back.
             Call::Offer(numbers) | Call::OfferLent(numbers) => self.offer(*numbers),
             Call::Tick(count) | Call::TickLent(count) => self.tick(*count),

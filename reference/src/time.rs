@@ -31,8 +31,8 @@ impl Time {
 
     /// The time so many times over: bit by bit of the count from the top, the sum is doubled, and where
     /// the bit is set the time is added once.
-    fn times(self, count: u32) -> Time {
-        let bits = (0..u32::BITS).rev().map(|bit| count >> bit & 1);
+    fn times(self, count: u64) -> Time {
+        let bits = (0..u64::BITS).rev().map(|bit| count >> bit & 1);
         bits.fold(Time::default(), |sum, bit| match bit {
             0 => sum.plus(sum),
             _ => sum.plus(sum).plus(self),
@@ -47,15 +47,15 @@ impl Time {
 
 /// The length in time of a trace of so many words: the sheet's refusals, then 32 for too many, then the
 /// period so many times over.
-pub fn length(sheet: &Sheet, count: u32) -> Result<Time, u32> {
+pub fn length(sheet: &Sheet, count: u64) -> Result<Time, u32> {
     if let Some(number) = sheet.refusal() {
         return Err(number);
     }
-    if count > LONGEST {
+    if count > LONGEST.into() {
         return Err(32);
     }
     let period = u64::from(sheet.period);
     let time = Time::carried(0, period).times(count);
-    assert!(time.makes(u64::from(count) * period), "{count}: {time:?}");
+    assert!(time.makes(count * period), "{count}: {time:?}");
     Ok(time)
 }

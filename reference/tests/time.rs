@@ -22,7 +22,7 @@ fn at(period: u32) -> Sheet {
 /// The answer as nanoseconds and rest.
 fn of(sheet: Sheet, count: u32) -> Result<(u64, u64), u32> {
     let pair = |time: Time| (time.nanoseconds, time.rest);
-    length(&sheet, count).map(pair)
+    length(&sheet, count.into()).map(pair)
 }
 
 /// Holds each count at a period to its nanoseconds and rest.
@@ -168,6 +168,16 @@ fn refusals_in_their_order() {
             assert_eq!(of(unfit, count), Err(number));
             assert_eq!(of(all, count), Err(number));
         }
+    }
+}
+
+/// Counts that 32 bits would take for 0, 1, the limit and one more, and the greatest there is.
+#[test]
+fn counts_past_32_bits() {
+    let past = [0, 1, LIMIT, LIMIT + 1].map(|count| (1 << 32) + u64::from(count));
+    for count in [&past[..], &[u64::MAX]].concat() {
+        assert_eq!(length(&SHEET_E, count), Err(32));
+        assert_eq!(length(&SHEET_E.with(9, 17), count), Err(33));
     }
 }
 

@@ -19,6 +19,7 @@ mod archive {
             shown: *mut u32,
         ) -> u64;
         pub fn bulk_count(words: *const u32, length: usize, counts: *mut u32, room: usize) -> u32;
+        pub fn bulk_duration(sheet: *const u32, count: usize, places: *mut u32) -> u32;
     }
 }
 
@@ -59,4 +60,11 @@ pub fn count(words: &[u32], counts: &mut [u32]) -> u32 {
     let (into, room) = (counts.as_mut_ptr(), counts.len());
     // SAFETY: the words can be read and the room can be written while they are lent.
     unsafe { archive::bulk_count(start, length, into, room) }
+}
+
+/// The length in time of so many words, into two places: 0 or a refusal.
+pub fn time(sheet: &Sheet, count: usize, places: &mut [u32; 2]) -> u32 {
+    let numbers = sheet.numbers();
+    // SAFETY: the sheet's numbers can be read, and two places written, while they are lent.
+    unsafe { archive::bulk_duration(numbers.as_ptr(), count, places.as_mut_ptr()) }
 }

@@ -1,5 +1,6 @@
 //! Compares the check, on one sheet and within limits, the walk and the tally on lent words with the
-//! reference implementation, on short traces and at the lengths where the refusals 24 and 30 begin.
+//! reference implementation, on short traces and at the lengths where the refusals 24 and 30 begin; and
+//! the length in time of more words than 32 bits count.
 
 mod answers;
 mod call;
@@ -8,6 +9,7 @@ mod last_clock;
 mod limits;
 mod limits_cases;
 mod run;
+mod time;
 
 use reference::random::Random;
 use run::Run;
@@ -28,12 +30,18 @@ fn main() {
     limits_cases::long(&mut run, &mut words);
     last_clock::each(&mut run);
     cases::sleeping(&mut run, &random);
+    time::each(&mut run, &random);
     let seconds = start.elapsed().as_secs_f64();
     println!(
         "bulk: seed {SEED:#x}, {} calls agree, {seconds:.1} s",
         run.calls
     );
-    let promised = [cases::promised(), limits_cases::promised()].concat();
+    let promised = [
+        cases::promised(),
+        limits_cases::promised(),
+        time::promised(),
+    ]
+    .concat();
     let sound = run.coverage.report(&promised);
     println!(
         "{}",

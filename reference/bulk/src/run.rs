@@ -8,7 +8,7 @@ use reference::sheet::Sheet;
 use reference::wiring;
 use std::process::exit;
 
-/// What stands in a place of the counts, or of a sheet, before a call.
+/// What stands in a place of the counts, of a sheet or of a time before a call.
 pub const UNTOUCHED: u32 = 7_777_777;
 
 /// What was called and met so far.
@@ -96,11 +96,16 @@ pub fn on(sheet: &Sheet, length: &str) -> String {
     format!("{length}, {}", wiring::name(sheet.wiring))
 }
 
-/// Reports a difference, keeps the trace and ends the program.
-pub fn fail(call: &str, words: &[u32], wanted: &str, got: &str) -> ! {
-    println!("FAILED: {call} on {} words", words.len());
+/// Reports a difference.
+pub fn report(call: &str, wanted: &str, got: &str) {
+    println!("FAILED: {call}");
     println!("  reference: {wanted}");
     println!("  archive:   {got}");
+}
+
+/// Reports a difference on a trace, keeps it and ends the program.
+pub fn fail(call: &str, words: &[u32], wanted: &str, got: &str) -> ! {
+    report(&format!("{call} on {} words", words.len()), wanted, got);
     let kept = std::env::temp_dir().join("bulk-difference.bin");
     let bytes = reference::script::bytes(words);
     std::fs::write(&kept, bytes).expect("the difference can be written");

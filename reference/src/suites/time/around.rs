@@ -36,7 +36,7 @@ pub fn each(random: &Random, rounds: u32, packer: &mut Packer, coverage: &mut Co
             false => fit,
         };
         let (state, count) = (random.pick(&[MOVED, PUT]), some_count(random));
-        let answer = match length(&sheet, count) {
+        let answer = match length(&sheet, count.into()) {
             Ok(_) => TIME,
             Err(32) => OF_COUNT,
             Err(_) => OF_SHEET,
