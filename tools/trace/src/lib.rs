@@ -11,6 +11,7 @@ mod list;
 mod pins;
 mod remarks;
 mod runs;
+mod time;
 
 pub use assemble::{assemble, Assembled, Failure};
 pub use format::{Format, Given};
@@ -18,6 +19,7 @@ pub use lines::{LONGEST_LINE, LONGEST_TEXT};
 pub use list::list;
 pub use remarks::Remarks;
 pub use runs::Trace;
+pub use time::{PERIOD, PERIODS};
 
 /// The most words of a trace that is assembled or listed: four times the longest that is checked.
 pub const LONGEST: u64 = 67_108_864;

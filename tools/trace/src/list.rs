@@ -4,13 +4,14 @@ use crate::command::Command;
 use crate::format::Format;
 use crate::kind::{open_after, opens, Kind};
 use crate::pins::{high, PD};
+use crate::time::lasts;
 use std::io::{self, Write};
 
 /// Equal words that open and close pairs in turn are named one by one up to this number.
 const NAMED_IN_TURN: u64 = 4;
 
-/// Lists the trace in a file's bytes; assembled again, the text gives the same bytes.
-pub fn list(bytes: &[u8], format: Format, out: &mut impl Write) -> io::Result<()> {
+/// Lists the trace in a file's bytes, and says at the end how long its words last; assembled again, the text gives the same bytes.
+pub fn list(bytes: &[u8], format: Format, period: u32, out: &mut impl Write) -> io::Result<()> {
     let words = bytes.chunks_exact(4);
     let rest = words.remainder();
     let words: Vec<u32> = words
@@ -29,7 +30,7 @@ pub fn list(bytes: &[u8], format: Format, out: &mut impl Write) -> io::Result<()
     for byte in rest {
         writeln!(out, "BYTE {byte:#X}")?;
     }
-    Ok(())
+    writeln!(out, "# {}", lasts(words.len(), period))
 }
 
 /// The number of words, and the format where it is not the institute's own.

@@ -6,17 +6,18 @@ use files::{Input, Output, STANDARD};
 use std::ffi::{OsStr, OsString};
 use std::io::{self, BufReader, Write};
 use std::process::ExitCode;
-use trace::{assemble, list, Failure, Format, Given, LONGEST};
+use trace::{assemble, list, Failure, Format, Given, LONGEST, PERIOD, PERIODS};
 
 const USAGE: &str = "usage:
-  trace assemble [--wiring 4|8] [TEXT [TRACE]]                                  from text to words
-  trace list [--bl 2|4] [--organisation 8|16] [--wiring 4|8] [TRACE [TEXT]]     from words to text
-A file that is left out, or is -, is standard input or output. BL 4, by 16, eight banks unless given.";
+  trace assemble [--wiring 4|8] [TEXT [TRACE]]                                              from text to words
+  trace list [--bl 2|4] [--organisation 8|16] [--wiring 4|8] [--period PS] [TRACE [TEXT]]   from words to text
+A file that is left out, or is -, is standard input or output. BL 4, by 16, eight banks, 5000 ps unless given; PS is from 3750 to 8500.";
 
 /// What the arguments ask for.
 struct Call {
     listing: bool,
     given: Given,
+    period: Option<u32>,
     input: OsString,
     output: OsString,
 }
@@ -49,48 +50,47 @@ fn call(arguments: &[OsString]) -> Option<Call> {
         "list" => true,
         _ => return None,
     };
-    let mut given = Given::default();
+    let mut call = Call {
+        listing,
+        given: Given::default(),
+        period: None,
+        input: STANDARD.into(),
+        output: STANDARD.into(),
+    };
     let mut files = Vec::new();
     while let Some(argument) = arguments.next() {
         if !argument.as_encoded_bytes().starts_with(b"--") {
             files.push(argument.clone());
             continue;
         }
-        let (place, values) = option(argument.to_str()?, listing, &mut given)?;
-        let value = one_of(arguments.next()?, values)?;
+        let (place, fits) = option(argument.to_str()?, &mut call)?;
+        let value = number(arguments.next()?).filter(fits)?;
         if place.replace(value).is_some() {
             return None;
         }
     }
     let mut files = files.into_iter();
-    let call = Call {
-        listing,
-        given,
-        input: files.next().unwrap_or(STANDARD.into()),
-        output: files.next().unwrap_or(STANDARD.into()),
-    };
+    call.input = files.next().unwrap_or(call.input);
+    call.output = files.next().unwrap_or(call.output);
     files.next().is_none().then_some(call)
 }
 
-/// The place of an option's value, and the two values there are; none if the command has no such option.
-fn option<'a>(
-    name: &str,
-    listing: bool,
-    given: &'a mut Given,
-) -> Option<(&'a mut Option<u32>, [u32; 2])> {
-    match name {
-        "--bl" if listing => Some((&mut given.bl, [2, 4])),
-        "--organisation" if listing => Some((&mut given.organisation, [8, 16])),
-        "--wiring" => Some((&mut given.wiring, [4, 8])),
-        _ => None,
-    }
+/// The place of an option's value, and which values there are; none if the command has no such option.
+fn option<'a>(name: &str, call: &'a mut Call) -> Option<(&'a mut Option<u32>, fn(&u32) -> bool)> {
+    let (place, fits): (_, fn(&u32) -> bool) = match name {
+        "--bl" if call.listing => (&mut call.given.bl, |n| [2, 4].contains(n)),
+        "--organisation" if call.listing => (&mut call.given.organisation, |n| [8, 16].contains(n)),
+        "--period" if call.listing => (&mut call.period, |n| PERIODS.contains(n)),
+        "--wiring" => (&mut call.given.wiring, |n| [4, 8].contains(n)),
+        _ => return None,
+    };
+    Some((place, fits))
 }
 
-/// The number, if it is one of two.
-fn one_of(text: &OsStr, values: [u32; 2]) -> Option<u32> {
-    values
-        .into_iter()
-        .find(|value| text == value.to_string().as_str())
+/// The number that a text is, if it is written as the program writes one.
+fn number(text: &OsStr) -> Option<u32> {
+    let number: u32 = text.to_str()?.parse().ok()?;
+    (text == number.to_string().as_str()).then_some(number)
 }
 
 /// Does what is asked for; a failure is what is to be said of it.
@@ -104,13 +104,18 @@ fn run(call: &Call) -> Result<(), String> {
         ));
     }
     match call.listing {
-        true => run_list(&input, call.given.format(), &output),
+        true => run_list(
+            &input,
+            call.given.format(),
+            call.period.unwrap_or(PERIOD),
+            &output,
+        ),
         false => run_assemble(&input, call.given.wiring, &output),
     }
 }
 
 /// From words to text. Words past the longest trace are not read: the input may have no end.
-fn run_list(input: &Input, format: Format, output: &Output) -> Result<(), String> {
+fn run_list(input: &Input, format: Format, period: u32, output: &Output) -> Result<(), String> {
     let name = &input.name;
     let bytes = input
         .bytes(4 * LONGEST + 4)
@@ -118,7 +123,7 @@ fn run_list(input: &Input, format: Format, output: &Output) -> Result<(), String
     if bytes.len() as u64 / 4 > LONGEST {
         return Err(format!("{name}: the trace is longer than {LONGEST} words"));
     }
-    output.write(|out| list(&bytes, format, out))
+    output.write(|out| list(&bytes, format, period, out))
 }
 
 /// From text to words.

@@ -2,7 +2,7 @@
 
 mod common;
 
-use common::{assembled, bytes, listing};
+use common::{assembled, bytes, last_line, listing};
 use trace::Format;
 
 /// Lines of every command with what stands in their comments, and their words; sheet E's format.
@@ -44,6 +44,7 @@ DESL                                    # 40
 PD x 3                                  # 41 to 43
 WORD 0x20001                            # 44, PD
 WRA bank 0 row 66                       # 45
+# lasts 230 ns and 0 ps, at 5000 ps a clock
 ";
 
 const WORDS: [u32; 46] = [
@@ -148,8 +149,9 @@ fn other_formats() {
     ];
     for (bl, organisation, heading, lal, word) in texts {
         let text = format!(
-            "# 2 words\n{heading}{:<40}# 0\n{lal:<40}# 1\n",
-            "WRA bank 5 row 6"
+            "# 2 words\n{heading}{:<40}# 0\n{lal:<40}# 1\n{}",
+            "WRA bank 5 row 6",
+            last_line(2)
         );
         let words = bytes(&[0x94006, word]);
         assert_eq!(listing(&words, format(bl, organisation)), text);
@@ -163,17 +165,21 @@ fn ignored_pins() {
     for (bl, organisation, word) in [(2, 16, 0xC2000), (2, 16, 0xC0800), (4, 8, 0xD1000)] {
         let text = listing(&bytes(&[0x80000, word]), format(bl, organisation));
         let last = format!("{:<40}# 1, LAL", format!("WORD {word:#X}"));
-        assert_eq!(text.lines().last(), Some(last.as_str()));
+        assert_eq!(text.lines().nth_back(1), Some(last.as_str()));
     }
 }
 
 #[test]
 fn no_words_and_a_rest() {
-    assert_eq!(listing(&[], Format::default()), "# 0 words\n");
-    let rest = "# 0 words\nBYTE 0x0\nBYTE 0xFF\nBYTE 0x1\n";
+    let time = last_line(0);
+    assert_eq!(
+        listing(&[], Format::default()),
+        format!("# 0 words\n{time}")
+    );
+    let rest = format!("# 0 words\nBYTE 0x0\nBYTE 0xFF\nBYTE 0x1\n{time}");
     assert_eq!(listing(&[0, 255, 1], Format::default()), rest);
     for text in ["", "\n", "# 0 words", "bl 2\norganisation 8\n", "at 0"] {
         assert_eq!(assembled(text), []);
     }
-    assert_eq!(assembled(rest), [0, 255, 1]);
+    assert_eq!(assembled(&rest), [0, 255, 1]);
 }

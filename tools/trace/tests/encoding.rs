@@ -2,7 +2,7 @@
 
 mod common;
 
-use common::{bytes, formats, good_as, listing};
+use common::{bytes, formats, good_as, last_line, listing};
 use reference::pair::{read, write, Operation, Request};
 use reference::random::Random;
 use reference::sheet::{Sheet, SHEET_E};
@@ -102,7 +102,7 @@ fn operations() {
             assert_eq!(good_as(&text, Some(format.wiring)).trace.bytes(), words);
 
             let text = listing(&words, format);
-            let tail = format!("{line:<40}# 0\n{next:<40}# 1\n");
+            let tail = format!("{line:<40}# 0\n{next:<40}# 1\n{}", last_line(2));
             assert!(text.ends_with(&tail), "{text}\n{tail}");
         }
     }

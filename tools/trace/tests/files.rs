@@ -9,7 +9,11 @@ use std::io::{BufRead, BufReader};
 use std::os::unix::ffi::OsStrExt;
 use std::path::{Path, PathBuf};
 
-const TEXT: &[u8] = b"# 1 words\nDESL                                    # 0\n";
+const TEXT: &[u8] = b"\
+# 1 words
+DESL                                    # 0
+# lasts 5 ns and 0 ps, at 5000 ps a clock
+";
 const BYTES: [u8; 4] = [0, 0, 0xC, 0];
 
 #[test]

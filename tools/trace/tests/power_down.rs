@@ -2,7 +2,7 @@
 
 mod common;
 
-use common::{assembled, bytes, formats, good, good_as, listing, wired};
+use common::{assembled, bytes, formats, good, good_as, last_line, listing, wired};
 use reference::random::Random;
 use trace::LONGEST;
 
@@ -80,7 +80,7 @@ PD";
 fn a_listing_and_its_words() {
     let trace = assembled(BY_HAND);
     for (wiring, heading) in [(8, ""), (4, "wiring 4\n")] {
-        let text = format!("# 49 words\n{heading}{LISTED}");
+        let text = format!("# 49 words\n{heading}{LISTED}{}", last_line(49));
         assert_eq!(listing(&trace, wired(wiring)), text);
         assert_eq!(assembled(&text), trace);
         assert_eq!(good_as(BY_HAND, Some(wiring)).trace.bytes(), trace);
@@ -94,7 +94,7 @@ fn every_low_word() {
     for wiring in [8, 4] {
         let text = listing(&bytes(&words), wired(wiring));
         assert_eq!(assembled(&text), bytes(&words));
-        let lines: Vec<&str> = text.lines().rev().take(words.len()).collect();
+        let lines: Vec<&str> = text.lines().rev().skip(1).take(words.len()).collect();
         for (word, line) in words.iter().rev().zip(lines) {
             let wanted = match *word {
                 LOW => format!("{:<40}# {word}", "PD"),

@@ -2,9 +2,13 @@
 
 mod common;
 
-use common::{file, run, said};
+use common::{file, last_line, run, said};
 
-const TEXT: &str = "# 2 words\nDESL x 2                                # 0 to 1\n";
+const TEXT: &str = "\
+# 2 words
+DESL x 2                                # 0 to 1
+# lasts 10 ns and 0 ps, at 5000 ps a clock
+";
 const BYTES: [u8; 8] = [0, 0, 0xC, 0, 0, 0, 0xC, 0];
 
 #[test]
@@ -37,10 +41,16 @@ fn files() {
 
 #[test]
 fn formats() {
-    let listed = run(&["list", "--bl", "2", "--organisation", "8"], &[]);
-    assert_eq!(listed.stdout, b"# 0 words\nbl 2\norganisation 8\n");
-    let listed = run(&["list", "--wiring", "4", "--bl", "2"], &[]);
-    assert_eq!(listed.stdout, b"# 0 words\nbl 2\nwiring 4\n");
+    let by_8 = (
+        ["--bl", "2", "--organisation", "8"],
+        "bl 2\norganisation 8\n",
+    );
+    let with_4 = (["--wiring", "4", "--bl", "2"], "bl 2\nwiring 4\n");
+    for (options, lines) in [by_8, with_4] {
+        let listed = run(&[&["list"], &options[..]].concat(), &[]);
+        let text = format!("# 0 words\n{lines}{}", last_line(0));
+        assert_eq!(String::from_utf8(listed.stdout).unwrap(), text);
+    }
 }
 
 /// One word by either wiring; eight banks unless it is asked for.
@@ -55,7 +65,7 @@ fn wirings() {
         (&["--wiring", "4"], four),
     ] {
         let listed = run(&[&["list"], options].concat(), &word);
-        let text = format!("# 1 words\n{heading}{line:<40}# 0\n");
+        let text = format!("# 1 words\n{heading}{line:<40}# 0\n{}", last_line(1));
         assert_eq!(String::from_utf8(listed.stdout).unwrap(), text);
         for text in [&text, line] {
             let assembled = run(&[&["assemble"], options].concat(), text.as_bytes());
@@ -109,7 +119,7 @@ fn what_cannot_be_read() {
 
 #[test]
 fn wrong_arguments() {
-    let calls: [&[&str]; 17] = [
+    let calls: [&[&str]; 25] = [
         &[],
         &["print"],
         &["assemble", "a", "b", "c"],
@@ -127,6 +137,14 @@ fn wrong_arguments() {
         &["assemble", "--wiring", "+4"],
         &["list", "--bl", "04"],
         &["assemble", "--wiring", "4", "-", "--wiring", "4"],
+        &["assemble", "--period", "5000"],
+        &["list", "--period"],
+        &["list", "--period", "3749"],
+        &["list", "--period", "8501"],
+        &["list", "--period", "05000"],
+        &["list", "--period", "5 ns"],
+        &["list", "--period", "4294972296"],
+        &["list", "--period", "5000", "--period", "5000"],
     ];
     for arguments in calls {
         let (status, what) = said(&run(arguments, b""));

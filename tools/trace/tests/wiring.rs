@@ -2,7 +2,7 @@
 
 mod common;
 
-use common::{assembled, bytes, faults, faults_as, good, good_as, listing, wired};
+use common::{assembled, bytes, faults, faults_as, good, good_as, last_line, listing, wired};
 use trace::assemble;
 
 /// The words of a good text, with a wiring asked for.
@@ -123,8 +123,8 @@ fn a_line_of_the_text() {
     let first = |line: &str| format!("{line:<40}# 0\n");
     let eight = first("WRA bank 6 row 3616");
     let four = first("WRA bank 2 row 20000");
-    let eight = format!("# 2 words\n{eight}{lal}");
-    let four = format!("# 2 words\nwiring 4\n{four}{lal}");
+    let eight = format!("# 2 words\n{eight}{lal}{}", last_line(2));
+    let four = format!("# 2 words\nwiring 4\n{four}{lal}{}", last_line(2));
     assert_eq!(listing(&trace, wired(8)), eight);
     assert_eq!(listing(&trace, wired(4)), four);
     for (text, wiring) in [(&eight, 8), (&four, 4)] {

@@ -6,7 +6,7 @@ use std::ffi::OsStr;
 use std::io::{BufRead, Write};
 use std::path::{Path, PathBuf};
 use std::process::{Command, Output, Stdio};
-use trace::{assemble, list, Assembled, Failure, Format};
+use trace::{assemble, list, Assembled, Failure, Format, PERIOD};
 
 /// Every BL with every organisation and wiring; the institute's own first.
 pub fn formats() -> Vec<Format> {
@@ -35,11 +35,21 @@ pub fn bytes(words: &[u32]) -> Vec<u8> {
     words.iter().flat_map(|word| word.to_le_bytes()).collect()
 }
 
-/// The listing of bytes.
+/// The listing of bytes, with the institute's own period.
 pub fn listing(bytes: &[u8], format: Format) -> String {
+    listing_at(bytes, format, PERIOD)
+}
+
+/// The listing of bytes, with a period.
+pub fn listing_at(bytes: &[u8], format: Format, period: u32) -> String {
     let mut text = Vec::new();
-    list(bytes, format, &mut text).expect("memory takes all text");
+    list(bytes, format, period, &mut text).expect("memory takes all text");
     String::from_utf8(text).expect("a listing is text")
+}
+
+/// The last line of a listing with the institute's own period: 5 ns a word.
+pub fn last_line(words: usize) -> String {
+    format!("# lasts {} ns and 0 ps, at 5000 ps a clock\n", 5 * words)
 }
 
 /// What a good text gives, with a wiring asked for or none.
