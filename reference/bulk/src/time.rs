@@ -1,4 +1,5 @@
-//! The length in time: counts that no script holds, since 32 bits are too few for them, and others beside them.
+//! The length in time: counts that no script holds, since 32 bits are too few for them, and others beside
+//! them.
 
 use crate::answers::meaning;
 use crate::call;
@@ -25,8 +26,8 @@ const ALLOWED: [(u64, &str); 5] = [
     (LIMIT, "16,777,216 words"),
 ];
 
-/// Counts that have none. 32 bits would take some of them for counts that do, and 64 would take the product of the
-/// last two and a period for a smaller one.
+/// Counts that have none. 32 bits would take some of them for counts that do, and 64 would take the
+/// product of the last two and a period for a smaller one.
 const ABOVE: [(u64, &str); 8] = [
     (LIMIT + 1, "16,777,217 words"),
     ((1 << 32) - 1, "2^32 - 1 words"),

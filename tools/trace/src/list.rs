@@ -10,7 +10,8 @@ use std::io::{self, Write};
 /// Equal words that open and close pairs in turn are named one by one up to this number.
 const NAMED_IN_TURN: u64 = 4;
 
-/// Lists the trace in a file's bytes, and says at the end how long its words last; assembled again, the text gives the same bytes.
+/// Lists the trace in a file's bytes, and says at the end how long its words last; assembled again, the
+/// text gives the same bytes.
 pub fn list(bytes: &[u8], format: Format, period: u32, out: &mut impl Write) -> io::Result<()> {
     let words = bytes.chunks_exact(4);
     let rest = words.remainder();
