@@ -20,7 +20,7 @@ extern "C" {
  * Answers 0 for accepted; 20 (grade, CL, BL or organisation), 21 (period), 22 (a count out of its range), 33 (CL 4 with a REFC below
  * 18), 29 (length is no multiple of four) or 24 (more than 16,777,216 words) for refused, the first that applies in this order;
  * otherwise the clock of the first breach times 64, plus its number from 1 to 13. A breach at clock 0 can only be 1 or 2, so no two
- * answers fall together.
+ * answers fall together, and the number says what the outcome is (docs/RULES.md, 10.2; proved in crates/distinct).
  */
 uint32_t fcram_check(uint32_t grade, uint32_t cl, uint32_t bl, uint32_t organisation, uint32_t period, uint32_t rbd, uint32_t rwd,
                      uint32_t wrd, uint32_t rsc, uint32_t refc, const uint8_t *trace, size_t length);

@@ -1,7 +1,24 @@
--- The number of each refusal.
+-- The number of each refusal, and the limit of clocks.
 use Prim.Native.Nat.{ℕ}
 use Rattle.basics.specs.declared.refusal.Refusal.{Refusal}
-use Rattle.basics.specs.declared.refusal.Refusal.the-variants.{State, Part, Period, Count, InBreach, ClockLimit, InputSize, Field, QueueFull, NotAPair, PartialWord, TooLong, WordCount, ShortRefresh, Wiring, Limits}
+use Rattle.basics.specs.declared.refusal.Refusal.the-variants.{
+  State,
+  Part,
+  Period,
+  Count,
+  InBreach,
+  ClockLimit,
+  InputSize,
+  Field,
+  QueueFull,
+  NotAPair,
+  PartialWord,
+  TooLong,
+  WordCount,
+  ShortRefresh,
+  Wiring,
+  Limits,
+}
 
 -- the number behind the dot in section 6 of RULES
 abbrev pub refusalNumber : Refusal → ℕ
@@ -21,3 +38,7 @@ refusalNumber WordCount = 32
 refusalNumber ShortRefresh = 33
 refusalNumber Wiring = 34
 refusalNumber Limits = 35
+
+-- the most words that a trace has, and the clock behind the last of them (RULES 5.3)
+abbrev pub limit : ℕ
+limit = 16777216

@@ -1,14 +1,10 @@
--- What the walks of `offer` and `tick` share: a struct of plain data behind a `&mut` is copied out whole, a covered function is called on the
--- copy, and the struct that it hands back is stored.
---     Known     the relation of a value of such a struct to its machine value, written out
---     opened    the `&mut` is opened: the machine value that lies there is written out, and its relation is in hand
---     closed    it is closed at another value, whose machine value lies there; what the value owns is given up
---     read      a call has returned a struct of plain data, whose relation is in hand: its machine value is written out
---     told      the same from what a call hands back: what its value owns, the tokens, the fact that the callee's `ensures` states of it, and
---               its relation
---     typed     the machine value has the struct's MIR type
---     reached   a walk, which uses no `requires`, is taken to the function's theorem
--- Assumes nothing.
+-- What the walks of `offer` and `tick` share: a struct of plain data behind a `&mut` is copied out whole, a covered function is called on
+-- the copy, and the struct that it hands back is stored. Known the relation of a value of such a struct to its machine value, written out
+-- opened the `&mut` is opened: the machine value that lies there is written out, and its relation is in hand closed it is closed at another
+-- value, whose machine value lies there; what the value owns is given up read a call has returned a struct of plain data, whose relation is
+-- in hand: its machine value is written out told the same from what a call hands back: what its value owns, the tokens, the fact that the
+-- callee's `ensures` states of it, and its relation typed the machine value has the struct's MIR type reached a walk, which uses no
+-- `requires`, is taken to the function's theorem.
 use mathlib.Core.Path.{refl, ap, subst}
 use Prim.Native.Nat.{ℕ}
 use mathlib.Core.List.{List, [], _∷_}
@@ -59,7 +55,8 @@ module _ {M : Type 1} {𝓤 : URA M} {H : Heap 𝓤} {A : Atoms 𝓤} {K : Type 
   module _ {Γ : List (Item 𝓤)} {G : Goal 𝓤 H} {κ : Lft} {q : Share} {γ : GName} {b o : ℕ} where
     pub opened : K → Soaks G → (T : Declared) (L : LL.Laws T) (h : T .D)
         → (Known T L h
-        → Seq K W (‵ (row T .own h (LL.vals T L h)) ∷ ‵ (cellAt fullShare (row T .mir) (LL.vals T L h) b o) ∷ ‵ (fobor κ q (Body (mem (row T)) b o γ))
+        → Seq K W
+        (‵ (row T .own h (LL.vals T L h)) ∷ ‵ (cellAt fullShare (row T .mir) (LL.vals T L h) b o) ∷ ‵ (fobor κ q (Body (mem (row T)) b o γ))
         ∷ ‵ (fobs γ (row T .coded .code h)) ∷ ‵ (fauth γ (row T .coded .code h)) ∷ Γ) G)
         → Seq K W (‵ (MutRef (named 0) κ (row T) .own (record { ptr = (b, o); name = γ; now = h }) (vptr b o ∷ [])) ∷ ‵ (flft κ q) ∷ Γ) G
     opened t z T L h k =
@@ -72,13 +69,15 @@ module _ {M : Type 1} {𝓤 : URA M} {H : Heap 𝓤} {A : Atoms 𝓤} {K : Type 
         (‵ (row T .own h (LL.vals T L h)) ∷ ‵ (cellAt fullShare (row T .mir) (LL.vals T L h) b o) ∷ ‵ (fobor κ q (Body (mem (row T)) b o γ))
         ∷ ‵ (fobs γ u) ∷ ‵ (fauth γ v) ∷ Γ) G
     closed t z T L h = step (λ s.
-        move t (1 ∷ 0 ∷ []) $ closes t z (row T) h (LL.vals T L h) b o $ feqI t (List Val) (vptr b o ∷ []) (vptr b o ∷ []) refl $ fjoin3 t $ s)
+        move t (1 ∷ 0 ∷ []) $ closes t z (row T) h (LL.vals T L h) b o $ feqI t (List Val) (vptr b o ∷ [])
+        (vptr b o ∷ []) refl $ fjoin3 t $ s)
 
   module _ {C : Calls 𝓤 H} {Λ : Loops 𝓤 H} {E : Env 𝓤 H} {d : Place} {rest : Code} {p : Post 𝓤 H} where
     pub read : K → {Γ : List (Item 𝓤)} (v : Val) (T : Declared) (L : LL.Laws T) (r : T .D) → Is (row T) r (v ∷ [])
         → (Known T L r → Seq K W Γ (lands C Λ E d (LL.val T L r) rest p)) → Seq K W Γ (lands C Λ E d v rest p)
     read t v T L r is k =
-        regoal t (λ (u : Val). lands C Λ E d u rest p) (ap only (LL.tells T L r (v ∷ []) is)) refl $ k (subst (Is (row T) r) (LL.tells T L r (v ∷ []) is) is)
+        regoal t (λ (u : Val). lands C Λ E d u rest p) (ap only (LL.tells T L r (v ∷ []) is)) refl $ k
+        (subst (Is (row T) r) (LL.tells T L r (v ∷ []) is) is)
 
     pub told : K → {Γ : List (Item 𝓤)} (v : Val) (T : Declared) (L : LL.Laws T) (Tokens : Item 𝓤)
         (F : Ended) (κs : Lfts (F .signature .lifetimes)) (a : Args (F .signature) κs)
@@ -118,10 +117,12 @@ module _ {M : Type 1} (𝓤 : URA M) (H : Heap 𝓤) (𝓜 : Model 𝓤 H) (𝓖
       → (c : Clauses 𝓤 T) (k : Name) (f : Fn) → Closed 𝓤 H C Λ k f
       → (sp : (κs : Lfts (S .lifetimes)) → Spells (Rs κs)) → ((κs : Lfts (S .lifetimes)) → Tellss (Rs κs) (Ises (Rs κs)) (sp κs))
       → (FmC 𝓤 H (W .laws) C
-      → (κs : Lfts (S .lifetimes)) (qs : Shares (S .lifetimes)) (bounds : AllOutlive (S .lifetimes) (S .outlives) κs) (a : Args S κs) (g : c κs a .ghost)
+      → (κs : Lfts (S .lifetimes)) (qs : Shares (S .lifetimes)) (bounds : AllOutlive (S .lifetimes) (S .outlives) κs) (a : Args S κs)
+      (g : c κs a .ghost)
       → Are (Rs κs) (Ises (Rs κs)) a (valss (Rs κs) (sp κs) a)
       → ent 𝓤 (onEntry 𝓤 H (𝓖 .A) S κs qs a (valss (Rs κs) (sp κs) a))
-      (WpFn 𝓤 H C Λ f (flat (Rs κs) (valss (Rs κs) (sp κs) a)) (walkOf 𝓤 H (𝓖 .A) T hs c .post ((κs, qs, bounds, a, valss (Rs κs) (sp κs) a), g))))
+      (WpFn 𝓤 H C Λ f (flat (Rs κs) (valss (Rs κs) (sp κs) a))
+      (walkOf 𝓤 H (𝓖 .A) T hs c .post ((κs, qs, bounds, a, valss (Rs κs) (sp κs) a), g))))
       → Meets 𝓤 H (𝓖 .A) S (C k) (closing 𝓤 H (𝓖 .A) T c)
   unfolding tablesOf
   reached hs gs c k f shut sp tl walk =

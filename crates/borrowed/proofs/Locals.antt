@@ -1,12 +1,9 @@
 -- The locals of a walked function, in the context of its walk: one after the other from _0 on, each as its cell and the right to free it.
---     Blocks, env       where the locals lie, and the environment that they make
---     Content, locals   a local is room, or it holds a value; and the locals as entries of a context
---     cell n i          the position of _i's cell in a context where n entries stand before the locals. A comment in brackets lists those
---     begins            the function is entered: its parameters hold what was passed, and the others are room
---     aside, freed      the first entry goes behind all others; the first local, which holds something, is freed
---     held, held-field  a local is read, or a field of it
---     sets, lands-in    a local that is room is assigned, or gets what a call returns
--- Assumes `Given`.
+-- Blocks, env where the locals lie, and the environment that they make Content, locals a local is room, or it holds a value; and the locals
+-- as entries of a context cell n i the position of _i's cell in a context where n entries stand before the locals. A comment in brackets
+-- lists those begins the function is entered: its parameters hold what was passed, and the others are room aside, freed the first entry
+-- goes behind all others; the first local, which holds something, is freed held, held-field a local is read, or a field of it sets,
+-- lands-in a local that is room is assigned, or gets what a call returns Assumes `Given`.
 use mathlib.Core.Path.{_≡_, refl}
 use Prim.Native.Nat.{ℕ, zero, _+_, _*_}
 use mathlib.Core.Option.{some}
@@ -73,7 +70,9 @@ module _ {M : Type 1} {𝓤 : URA M} {H : Heap 𝓤} {A : Atoms 𝓤} {K : Type 
   swapped : {G : Goal 𝓤 H} (Δ Δ′ Γ : List (Item 𝓤)) → Step K W (Δ′ ++ (Δ ++ Γ)) G (Δ ++ (Δ′ ++ Γ)) G
   swapped Δ Δ′ Γ = step (λ s. record {
     prf = via 𝓤 _ (⊢++ 𝓤 H A Δ (Δ′ ++ Γ)) (via 𝓤 _ (monoR 𝓤 (⋆ 𝓤 H A Δ) (⊢++ 𝓤 H A Δ′ Γ))
-        (via 𝓤 _ (qed W (raw (⋆ 𝓤 H A Δ) ∷ (raw (⋆ 𝓤 H A Δ′) ⊛ raw (⋆ 𝓤 H A Γ)) ∷ []) ∵ move ! (1 ∷ []) $ split ! $ frame ! $ move ! (1 ∷ 0 ∷ []) $ done !)
+        (via 𝓤 _
+        (qed W (raw (⋆ 𝓤 H A Δ) ∷ (raw (⋆ 𝓤 H A Δ′) ⊛ raw (⋆ 𝓤 H A Γ)) ∷ []) ∵ move ! (1 ∷ []) $ split ! $ frame ! $ move !
+        (1 ∷ 0 ∷ []) $ done !)
         (via 𝓤 _ (monoR 𝓤 (⋆ 𝓤 H A Δ′) (++⊢ 𝓤 H A Δ Γ)) (via 𝓤 _ (++⊢ 𝓤 H A Δ′ (Δ ++ Γ)) (s .prf)))));
   })
 
@@ -105,7 +104,8 @@ module _ {M : Type 1} {𝓤 : URA M} {H : Heap 𝓤} {A : Atoms 𝓤} {K : Type 
       from-result [] bs fit s = absurd fit
       from-result (local τ h ∷ ls) bs fit s =
           let own = ‵ (froom τ (bs .0) zero) ∷ ‵ (fdies τ (bs .0)) ∷ [] in
-          params1 t $ swapped own (locals ls (bs .1) []) Γ $ stored t (own ++ Γ) ls (bs .1) vs fit $ swapped (locals ls (bs .1) (passed vs)) own Γ $ s
+          params1 t $ swapped own (locals ls (bs .1) []) Γ $ stored t (own ++ Γ) ls (bs .1) vs fit $ swapped
+          (locals ls (bs .1) (passed vs)) own Γ $ s
 
   -- ---- the function ends
   pub aside : K → {Γ : List (Item 𝓤)} {i : Item 𝓤} {G : Goal 𝓤 H} → Step K W (Γ ++ (i ∷ [])) G (i ∷ Γ) G
@@ -123,12 +123,14 @@ module _ {M : Type 1} {𝓤 : URA M} {H : Heap 𝓤} {A : Atoms 𝓤} {K : Type 
         → Opd K W Γ E (copy (place i [])) v
     held t n e = load t (from t (stop t)) (look t n e)
 
-    pub held-field : K → (n : ℕ) {i k d : ℕ} {q : Share} {τ : Ty} {v : Val} {back : Val → Item 𝓤} → fieldOf (spotOf 𝓤 H E i .0) k ≡ some (τ, d)
+    pub held-field : K → (n : ℕ) {i k d : ℕ} {q : Share} {τ : Ty} {v : Val} {back : Val → Item 𝓤}
+        → fieldOf (spotOf 𝓤 H E i .0) k ≡ some (τ, d)
         → Part K W (nth 𝓤 H A n Γ) q τ (spotOf 𝓤 H E i .1) (zero + d) v back → Opd K W Γ E (copy (place i (field k ∷ []))) v
     held-field t n e p = load t (from t (fld t e (stop t))) (look-in t n p)
 
     module _ {C : Calls 𝓤 H} {Λ : Loops 𝓤 H} {q : Post 𝓤 H} where
-      pub sets : K → (n : ℕ) {i : ℕ} {rv : RValue} {rest : Body} {v : Val} → nth 𝓤 H A n Γ ≡ ‵ (froom (spotOf 𝓤 H E i .0) (spotOf 𝓤 H E i .1) zero)
+      pub sets : K → (n : ℕ) {i : ℕ} {rv : RValue} {rest : Body} {v : Val}
+          → nth 𝓤 H A n Γ ≡ ‵ (froom (spotOf 𝓤 H E i .0) (spotOf 𝓤 H E i .1) zero)
           → Rv K W Γ E rv v → Holds (hasTy (spotOf 𝓤 H E i .0) v) × WT v
           → Step K W (put 𝓤 H A n (‵ (fat fullShare (spotOf 𝓤 H E i .0) (spotOf 𝓤 H E i .1) zero v)) Γ) (runs C Λ E rest q)
           Γ (runs C Λ E (seq (assign (place i []) rv) rest) q)

@@ -1,4 +1,4 @@
--- Rules 5 to 8 look at reads and writes alone, rules 4, 11 and 12 at mode and refresh pairs alone. Assumes nothing.
+-- Rules 5 to 8 look at reads and writes alone, rules 4, 11 and 12 at mode and refresh pairs alone.
 use Prim.Native.Nat.{ℕ, _+_}
 use mathlib.Core.Path.{_≡_}
 use mathlib.Core.Bool.{Bool, true, false, cond, not, _&&_, and-false, and-true}
@@ -22,7 +22,20 @@ module _ (t : Timing) (s : Timestamps) (k first second : ℕ) where
       → b10 ≡ near k (getD (s .refs) 0 0) (t .refc + 0)
       → lowest 5 (b5 ∷ b6 ∷ b7 ∷ b8 ∷ b9 ∷ b10 ∷ []) ≡ closingBreach t s k first second
   at-lal l e5 e6 e7 e8 e9 e10 =
-      rw (e5, e6, e7, e8, e9, e10, no-more (t .rc), no-more (t .rsc), no-more (t .refc), l, and-false (rda first), and-false (not (rda first)))
+      rw (
+        e5,
+        e6,
+        e7,
+        e8,
+        e9,
+        e10,
+        no-more (t .rc),
+        no-more (t .rsc),
+        no-more (t .refc),
+        l,
+        and-false (rda first),
+        and-false (not (rda first)),
+      )
 
   pub at-other : {b4 b9 b10 b11 b12 : Bool} → lal second ≡ false
       → b4 ≡ modeWrong t first second
@@ -32,4 +45,17 @@ module _ (t : Timing) (s : Timestamps) (k first second : ℕ) where
       → b12 ≡ near k (getD (s .refs) 7 0) (t .window + 0)
       → cond b4 4 (lowest 9 (b9 ∷ b10 ∷ b11 ∷ (not (rda first) && b12) ∷ [])) ≡ closingBreach t s k first second
   at-other l e4 e9 e10 e11 e12 =
-      rw (e4, e9, e10, e11, e12, no-more (t .rsc), no-more (t .refc), no-more (t .window), l, and-false (rda first), and-false (not (rda first)), and-true (not (rda first)))
+      rw (
+        e4,
+        e9,
+        e10,
+        e11,
+        e12,
+        no-more (t .rsc),
+        no-more (t .refc),
+        no-more (t .window),
+        l,
+        and-false (rda first),
+        and-false (not (rda first)),
+        and-true (not (rda first)),
+      )

@@ -1,4 +1,4 @@
--- A spacing as the code adds it up. Assumes nothing.
+-- A spacing as the code adds it up.
 use Prim.Native.Nat.{ℕ, _+_}
 use mathlib.Core.Path.{_≡_}
 use native.Mathlib.Omega.{arith}

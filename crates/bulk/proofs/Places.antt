@@ -1,4 +1,4 @@
--- Five stores give the list that the contract names. Assumes nothing.
+-- Five stores give the list that the contract names.
 use Prim.Native.Nat.{ℕ, _≤_}
 use mathlib.Core.Path.{_≡_, refl}
 use mathlib.Core.List.{List, [], _∷_}

@@ -1,10 +1,10 @@
--- One turn of a walk, by what its advance gave. Assumes nothing.
+-- One turn of a walk, by what its advance gave.
 use Prim.Native.Nat.{ℕ, zero, suc, _-_, _<_}
 use mathlib.Core.Path.{_≡_}
 use mathlib.Core.Bool.{true, false}
 use mathlib.Core.List.{List}
 use native.Mathlib.Omega.{arith}
-use Rattle.protocol.specs.declared.checker.Checker.{Checker}
+use Rattle.checker.specs.declared.checker.Checker.{Checker}
 use Rattle.walks.specs.Walk.{Move, moveOf}
 use Rattle.bulk.specs.Walks.{isPass, walkFrom}
 

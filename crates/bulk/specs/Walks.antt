@@ -5,8 +5,8 @@ use mathlib.Core.List.{List}
 use lib.ListN.{length}
 use Rattle.basics.specs.Outcome.{Outcome, value, refused}
 use Rattle.config.specs.declared.Config.{Config}
-use Rattle.protocol.specs.Steps.{fresh}
-use Rattle.protocol.specs.declared.checker.Checker.{Checker}
+use Rattle.checker.specs.Steps.{fresh}
+use Rattle.checker.specs.declared.checker.Checker.{Checker}
 use Rattle.walks.specs.Walk.{Reached, passed, breached, ended, Move, staying, moveOf}
 
 -- the word passed

@@ -66,7 +66,8 @@ pub extern "C" fn bulk_limits(
     shown: &mut [u32; 11],
 ) -> u64
     ensures answer { λ r. ⌜ r ≡ findingNumber (foundOf (now (least .entry)) (now (greatest .entry)) (now (words .entry))) ⌝ }
-    ensures buffer { λ _. ⌜ now (shown .exit) ≡ shownIn (foundOf (now (least .entry)) (now (greatest .entry)) (now (words .entry))) (now (shown .entry)) ⌝ }
+    ensures buffer { λ _. ⌜ now (shown .exit) ≡
+        shownIn (foundOf (now (least .entry)) (now (greatest .entry)) (now (words .entry))) (now (shown .entry)) ⌝ }
 {
     let answer = check_within(config_of(least), config_of(greatest), words);
     show(answer, shown);
@@ -83,7 +84,7 @@ pub extern "C" fn bulk_walk(sheet: &[u32; 11], words: &[u32]) -> u64
     of_progress(progress)
 }
 
-// The same walk, and then the answer of one advance more.
+// A whole walk over the words, and then the answer of one advance more.
 #[no_mangle]
 pub extern "C" fn bulk_walk_again(sheet: &[u32; 11], words: &[u32]) -> u64
     ensures { λ r. ⌜ r ≡ walkNumber (againOf (sheetOf (now (sheet .entry))) (now (words .entry))) ⌝ }

@@ -1,9 +1,9 @@
 // Answers as one number.
-use protocol::Breach;
-use protocol::Verdict;
+use checker::Breach;
+use checker::Verdict;
 use walks::Progress;
 ghost use mathlib.Core.Path.{_≡_};
-ghost use Rattle.protocol.specs.Steps.{verdictOutcome};
+ghost use Rattle.checker.specs.Steps.{verdictOutcome};
 ghost use Rattle.walks.specs.Walk.{progressOutcome};
 ghost use Rattle.bulk.specs.Numbers.{breachNumber, checkNumber, walkNumber};
 

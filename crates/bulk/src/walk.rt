@@ -1,7 +1,7 @@
 // A walk that is advanced until it does not pass.
+use checker::Checker;
 use config::Config;
 use lending::advance_through;
-use protocol::Checker;
 use walks::Moved;
 use walks::Progress;
 ghost use mathlib.Core.Path.{_≡_};

@@ -1,10 +1,12 @@
 -- Words that breach nothing: DESL, the two of a read or write, those of a sleep; and a run over what is kept goes on past any number of
--- them. Assumes nothing.
-use Prim.Native.Nat.{ℕ, _+_, _/_, _^_, _≤_, _<_}
+-- them.
+use Prim.Native.Nat.{ℕ, zero, suc, _+_, _/_, _^_, _≤_, _<_}
 use mathlib.Core.Path.{_≡_, refl, sym, _∙_, ap}
 use mathlib.Core.Bool.{true, false, not, cond, _||_, and-false}
 use mathlib.Core.List.{List}
 use native.Mathlib.Omega.{arith}
+use native.Mathlib.Nat.{add-zero, add-suc}
+use native.Mathlib.Numerals.{add-one}
 use borrow.Author.Tests.{le-ltb, lt-leb}
 use lib.ListN.{length, getD, set, drop}
 use lib.Dec.{eqb}
@@ -61,7 +63,7 @@ accessed bank p read write =
     let s = p .stamps in
     record {
       clock = p .clock + 1;
-      first = 0xC0000;
+      met = 0xC0000;
       stamps =
           record {
             extended = s .extended;
@@ -79,16 +81,17 @@ module _ (t : Timing) (ws : List ℕ) (p : Place) {w : ℕ} (inside : p .clock <
     (due : overdue (deadline (t .refi) (p .stamps .refs)) (p .clock) ≡ false) where
   -- the place behind it, with the same timestamps
   abbrev behind : ℕ → Place
-  behind first = record { clock = p .clock + 1; first = first; stamps = p .stamps }
+  behind first = record { clock = p .clock + 1; met = first; stamps = p .stamps }
 
   -- the first word of a pair, where nothing is met
-  pub opening-passes : p .first ≡ 0xC0000 → w / 2 ^ 18 ≡ 2 → Passes t ws p (behind w)
+  pub opening-passes : p .met ≡ 0xC0000 → w / 2 ^ 18 ≡ 2 → Passes t ws p (behind w)
   opening-passes free e =
       let pd : w / 2 ^ 19 ≡ 1 = omega arith in
-      record { inside = inside; sound = rw (← word, free, early-kept t (p .stamps) (p .clock) 0xC0000 w pd due); leads = rw (← word, free, pd, e) }
+      let early = early-kept t (p .stamps) (p .clock) 0xC0000 w pd due in
+      record { inside = inside; sound = rw (← word, free, early); leads = rw (← word, free, pd, e) }
 
   -- a word that goes low
-  pub low-passes : p .first ≡ 0xC0000 → w / 2 ^ 18 ≡ 1 → mustStayHigh t (p .stamps) (p .clock) ≡ false → Passes t ws p (behind 0x40000)
+  pub low-passes : p .met ≡ 0xC0000 → w / 2 ^ 18 ≡ 1 → mustStayHigh t (p .stamps) (p .clock) ≡ false → Passes t ws p (behind 0x40000)
   low-passes free e may =
       let pd : w / 2 ^ 19 ≡ 0 = omega arith in
       record {
@@ -98,50 +101,59 @@ module _ (t : Timing) (ws : List ℕ) (p : Place) {w : ℕ} (inside : p .clock <
       }
 
   -- a wake-up word, the first and the second
-  pub exit-passes : high 18 (p .first) ≡ true → {first₁ : ℕ} → first₁ ≡ cond {A = ℕ} (isPoweredDown (p .first)) 0xE0000 0xC0000
+  pub exit-passes : high 18 (p .met) ≡ true → {first₁ : ℕ} → first₁ ≡ cond {A = ℕ} (isPoweredDown (p .met)) 0xE0000 0xC0000
       → w / 2 ^ 18 ≡ 3 → Passes t ws p (behind first₁)
   exit-passes no-pair next e =
+      let early = early-kept t (p .stamps) (p .clock) (p .met) w (driven w e) due in
+      let unselected = and-false (isPoweredDown (p .met) || isExiting (p .met)) in
       record {
         inside = inside;
-        sound =
-            rw (← word, early-kept t (p .stamps) (p .clock) (p .first) w (driven w e) due, driven w e, e, and-false (isPoweredDown (p .first) || isExiting (p .first)))
-            (rw no-pair);
+        sound = rw (← word, early, driven w e, e, unselected) (rw no-pair);
         leads = rw (← word, driven w e, e, next) (rw no-pair);
       }
 
   -- the LAL word of a read or write
-  pub access-passes : high 18 (p .first) ≡ false → {bank from : ℕ} → bank ≡ bankOf (t .four) (p .first) → Settled t (p .stamps) (p .clock)
-      → Clear t (recentOf (p .stamps) bank) from (p .clock) (p .first) w
-      → {read write : ℕ} → read ≡ cond {A = ℕ} (rda (p .first)) (p .clock) (p .stamps .read)
-      → write ≡ cond {A = ℕ} (rda (p .first)) (p .stamps .write) (p .clock) → Passes t ws p (accessed bank p read write)
+  pub access-passes : high 18 (p .met) ≡ false → {bank from : ℕ} → bank ≡ bankOf (t .four) (p .met) → Settled t (p .stamps) (p .clock)
+      → Clear t (recentOf (p .stamps) bank) from (p .clock) (p .met) w
+      → {read write : ℕ} → read ≡ cond {A = ℕ} (rda (p .met)) (p .clock) (p .stamps .read)
+      → write ≡ cond {A = ℕ} (rda (p .met)) (p .stamps .write) (p .clock) → Passes t ws p (accessed bank p read write)
   access-passes opened of-bank settled clear read write =
+      let early = early-kept t (p .stamps) (p .clock) (p .met) w (driven w (clear .driven)) due in
+      let lal = lal-kept t (p .stamps) (p .clock) (p .met) w of-bank settled clear in
       record {
         inside = inside;
-        sound = rw (← word, early-kept t (p .stamps) (p .clock) (p .first) w (driven w (clear .driven)) due, opened, lal-kept t (p .stamps) (p .clock) (p .first) w of-bank settled clear);
+        sound = rw (← word, early, opened, lal);
         leads = rw (of-bank, read, write, ← word, opened, high-lal w (clear .driven));
       }
 
 -- a DESL word where nothing is met, and one with PD low in sleep
-pub desl-quiet : Quiet 0xC0000 0xC0000 0x100000
-desl-quiet t s k w low high due =
-    let cs : w / 2 ^ 18 ≡ 3 = omega arith in
-    (rw (early-kept t s k 0xC0000 w (driven w cs) due), rw (cs, driven w cs))
+pub desl-quiet : Quiet 0xC0000 18 3
+desl-quiet t s k w cs due = (rw (early-kept t s k 0xC0000 w (driven w cs) due), rw (cs, driven w cs))
 
-pub low-quiet : Quiet 0x40000 0 0x80000
-low-quiet t s k w low high due =
-    let pd : w / 2 ^ 19 ≡ 0 = omega arith in
-    (rw (lt-leb (2 ^ 20) w (omega arith), pd, due), rw pd)
+pub low-quiet : Quiet 0x40000 19 0
+low-quiet t s k w pd due = (rw (lt-leb (2 ^ 20) w (omega arith), pd, due), rw pd)
 
-pub quiet-passes : {first least bound : ℕ} → Quiet first least bound → (t : Timing) (s : Timestamps) (ws : List ℕ) (k : ℕ) {w : ℕ}
-    → k < length ws → w ≡ getD ws k 0 → least ≤ w → w < bound → overdue (deadline (t .refi) (s .refs)) k ≡ false
-    → Passes t ws (record { clock = k; first = first; stamps = s }) (record { clock = k + 1; first = first; stamps = s })
-quiet-passes quiet t s ws k {w} inside word low high due =
-    let here = quiet t s k w low high due in
-    record { inside = inside; sound = rw (← word) (here .0); leads = rw (← word) (here .1) }
+-- any number of words from clock k on that are quiet
+pub quiet-on : {first : ℕ} (shift top : ℕ) → Quiet first shift top → (t : Timing) (s : Timestamps) (ws : List ℕ) (k n : ℕ)
+    → ((i : ℕ) → i < n → (k + i < length ws) × (getD ws (k + i) 0 / 2 ^ shift ≡ top))
+    → ((i : ℕ) → i < n → overdue (deadline (t .refi) (s .refs)) (k + i) ≡ false)
+    → Passed t ws (record { clock = k; met = first; stamps = s }) (record { clock = k + n; met = first; stamps = s })
+quiet-on shift top quiet t s ws k zero words due = rw (add-zero k) none
+quiet-on shift top quiet t s ws k (suc n) words due =
+    let here = words n (omega arith) in
+    let sound = quiet t s (k + n) (getD ws (k + n) 0) (here .1) (due n (omega arith)) in
+    rw (add-suc k n, ← add-one (k + n))
+    (more (quiet-on shift top quiet t s ws k n (λ i h. words i (omega arith)) (λ i h. due i (omega arith)))
+    (record { inside = here .0; sound = sound .0; leads = sound .1 }))
 
 pub passed-on : {t : Timing} {ws : List ℕ} {p q r : Place} → Passed t ws p q → Passed t ws q r → Passed t ws p r
 passed-on before none = before
 passed-on before (more on h) = more (passed-on before on) h
+
+-- whatever was passed is there
+pub passed-inside : {t : Timing} {ws : List ℕ} {p q : Place} → Passed t ws p q → p .clock < q .clock → q .clock ≤ length ws
+passed-inside none h = absurd (omega arith)
+passed-inside (more before last) h = rw (last .leads) (omega (arith, last .inside))
 
 pub passed-onward : {t : Timing} {ws : List ℕ} {p q : Place} → Passed t ws p q → p .clock ≤ q .clock
 passed-onward none = omega arith
@@ -149,12 +161,12 @@ passed-onward (more before h) = rw (h .leads) (omega (arith, passed-onward befor
 
 -- the judgement from a place on
 abbrev pub runFrom : Timing → List ℕ → Place → Judgement
-runFrom t ws p = run t (p .stamps) (p .clock) (p .first) (drop (p .clock) ws)
+runFrom t ws p = run t (p .stamps) (p .clock) (p .met) (drop (p .clock) ws)
 
 module _ (t : Timing) (ws : List ℕ) where
   pub passes-run : {p q : Place} → Passes t ws p q → runFrom t ws p ≡ runFrom t ws q
   passes-run {p} h =
-      run-passes t (p .stamps) (p .first) ws (p .clock) (h .inside) refl refl (h .sound) refl refl
+      run-passes t (p .stamps) (p .met) ws (p .clock) (h .inside) refl refl (h .sound) refl refl
       ∙ ap (runFrom t ws) (sym (h .leads))
 
   pub passed-run : {p q : Place} → Passed t ws p q → runFrom t ws p ≡ runFrom t ws q

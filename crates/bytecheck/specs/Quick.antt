@@ -4,8 +4,10 @@ use mathlib.Core.List.{List}
 use mathlib.Core.Path.{_≡_}
 use mathlib.Core.Bool.{true, false}
 use lib.ListN.{getD}
+use Rattle.stamps.specs.Stamps.{asleep}
+use Rattle.basics.specs.Numbers.{limit}
 use Rattle.config.specs.declared.Timing.{Timing}
-use Rattle.command.specs.Pairs.{rda}
+use Rattle.command.specs.Pairs.{rda, desl}
 use Rattle.reading.specs.Reading.{laneReserved}
 use Rattle.rules.specs.Breaches.{near, deadline, overdue, notReady, tooClose, wordBreach}
 use Rattle.stamps.specs.declared.Timestamps.{Timestamps}
@@ -19,9 +21,9 @@ pub record Settled (t : Timing) (s : Timestamps) (k : ℕ) : Type 0 where
   pub afterMode : near k (s .mode) (t .rsc) ≡ false
   pub afterRefresh : near k (getD (s .refs) 0 0) (t .refc) ≡ false
 
--- so it is at every clock of a trace from this one on
+-- at every clock of a trace from this one on, a read or write that closes there breaches none of rules 6, 9 and 10
 abbrev pub SettledFrom : Timing → Timestamps → ℕ → Type 0
-SettledFrom t s from = (k : ℕ) → k ≤ 16777216 → from ≤ k → Settled t s k
+SettledFrom t s from = (k : ℕ) → k ≤ limit → from ≤ k → Settled t s k
 
 -- the word at clock k is a LAL word that keeps rules 1, 2, 5, 7 and 8, and not before the clock `settled`
 pub record Clear (t : Timing) (recent : Recent) (settled k first word : ℕ) : Type 0 where
@@ -35,22 +37,23 @@ pub record Clear (t : Timing) (recent : Recent) (settled k first word : ℕ) : T
 abbrev pub InTime : Timing → Timestamps → ℕ → Type 0
 InTime t s end = (k : ℕ) → k < end → overdue (deadline (t .refi) (s .refs)) k ≡ false
 
--- a word from `least` on and below `bound` breaches nothing and changes nothing, whatever is kept of the past, if rule 3 is kept there
+-- a word that is `top` without its `shift` lowest bits breaches nothing and changes nothing, whatever is kept of the past, if rule 3 is
+-- kept there
 abbrev pub Quiet : ℕ → ℕ → ℕ → Type 0
-Quiet first least bound =
-    (t : Timing) (s : Timestamps) (k w : ℕ) → least ≤ w → w < bound → overdue (deadline (t .refi) (s .refs)) k ≡ false
-    → let p : Place = record { clock = k; first = first; stamps = s } in
-    (wordBreach t s k first w ≡ 0) × (record { clock = k + 1; first = first; stamps = s } ≡ next (t .four) p w)
+Quiet first shift top =
+    (t : Timing) (s : Timestamps) (k w : ℕ) → w / 2 ^ shift ≡ top → overdue (deadline (t .refi) (s .refs)) k ≡ false
+    → let p : Place = record { clock = k; met = first; stamps = s } in
+    (wordBreach t s k first w ≡ 0) × (record { clock = k + 1; met = first; stamps = s } ≡ next (t .four) p w)
 
 -- the words from clock k to j do, in every state in which such words do
 abbrev pub RunPassed : ℕ → ℕ → ℕ → List ℕ → ℕ → ℕ → Type 0
-RunPassed least bound end words k j =
-    (first : ℕ) → Quiet first least bound → (t : Timing) (s : Timestamps) → InTime t s end
-    → Passed t words (record { clock = k; first = first; stamps = s }) (record { clock = j; first = first; stamps = s })
+RunPassed shift top end words k j =
+    (first : ℕ) → Quiet first shift top → (t : Timing) (s : Timestamps) → InTime t s end
+    → Passed t words (record { clock = k; met = first; stamps = s }) (record { clock = j; met = first; stamps = s })
 
 -- the place at a clock where nothing is met
 abbrev pub idleAt : ℕ → Timestamps → Place
-idleAt k s = record { clock = k; first = 0xC0000; stamps = s }
+idleAt k s = record { clock = k; met = desl; stamps = s }
 
 -- the words from clock k to j lead there again
 abbrev pub IdlePassed : Timing → Timestamps → ℕ → List ℕ → ℕ → ℕ → Type 0
@@ -58,4 +61,6 @@ IdlePassed t s end words k j = InTime t s end → Passed t words (idleAt k s) (i
 
 -- they lead from asleep to asleep
 abbrev pub LowPassed : Timing → Timestamps → List ℕ → ℕ → ℕ → Type 0
-LowPassed t s words k j = Passed t words (record { clock = k; first = 0x40000; stamps = s }) (record { clock = j; first = 0x40000; stamps = s })
+LowPassed t s words k j =
+    let at : ℕ → Place = λ k. record { clock = k; met = asleep; stamps = s } in
+    Passed t words (at k) (at j)

@@ -1,18 +1,18 @@
 // The whole check of a trace that is handed over as bytes.
+mod idle;
 mod place;
 mod quick;
-mod runs;
 mod skim;
 
 use basics::LIMIT;
 use basics::Refusal;
 use breaches::word_breach;
+use checker::Breach;
+use checker::Verdict;
 use config::Config;
 use config::Timing;
 use config::TimingAnswer;
 use place::Place;
-use protocol::Breach;
-use protocol::Verdict;
 use skim::skimmed;
 ghost use mathlib.Core.Path.{_≡_};
 ghost use Prim.Native.Nat.{_≤_, _/_};
@@ -20,7 +20,7 @@ ghost use lib.ListN.{length};
 ghost use Rattle.basics.specs.Outcome.{value};
 ghost use Rattle.words.specs.Words.{wordsOf};
 ghost use Rattle.rules.specs.Verdict.{judge, checkBytesOf};
-ghost use Rattle.protocol.specs.Steps.{verdictOutcome};
+ghost use Rattle.checker.specs.Steps.{verdictOutcome};
 
 // Words that surely breach nothing are skimmed; the others are tested by every rule.
 fn judged_bytes(timing: Timing, bytes: &[u8]) -> Verdict
@@ -37,7 +37,7 @@ fn judged_bytes(timing: Timing, bytes: &[u8]) -> Verdict
             break;
         }
         let word = words::word_at(bytes, clock as usize);
-        let number = word_breach(timing, place.stamps, clock, place.first, word);
+        let number = word_breach(timing, place.stamps, clock, place.met, word);
         if number != 0 {
             return Verdict::InBreach(Breach { clock, number });
         }

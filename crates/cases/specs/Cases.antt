@@ -1,6 +1,5 @@
--- All eight cases of the paper's section "Clocks on either edge, sheet E" as one table, behind them those of the wiring, of power
--- down, of relaxed sheets, of limits and of lengths in time, and one test that is computed over all of it. Case a goes by the words that
--- are laid down.
+-- All eight cases of the paper's section "Clocks on either edge, sheet E" as one table, and one test that is computed over all of it. Case
+-- a goes by the words that are laid down.
 use Prim.Native.Nat.{ℕ}
 use mathlib.Core.Path.{_≡_, refl}
 use mathlib.Core.Bool.{Bool, true, false, cond}
@@ -12,29 +11,19 @@ use Rattle.command.specs.Pins.{level}
 use Rattle.model.specs.Laid.{Course, start, tick, queued}
 use Rattle.model.specs.Traces.{words, startUpPairs, readAt, bank0Read}
 use Rattle.cases.specs.CheckerCases.{Row, row, agree, checkerCases}
-use Rattle.cases.specs.WiringCases.{wiringCases}
-use Rattle.cases.specs.PowerDownCases.{powerDownCases}
-use Rattle.cases.specs.RelaxedCases.{relaxedCases}
-use Rattle.cases.specs.LimitsCases.{limitsCases}
-use Rattle.cases.specs.DurationCases.{durationCases}
 
 -- the next words are these
 abbrev pub gives : Timing → Course → List ℕ → Bool
 gives t c [] = true
 gives t c (w ∷ ws) = let r = tick t c in cond (eqb (r .word) w) (gives t (r .after) ws) false
 
--- case a, then the rows of CheckerCases, WiringCases, PowerDownCases, RelaxedCases, LimitsCases and DurationCases
+-- case a, then the figures of sheet E and the cases b to h
 abbrev pub table : List Row
 table =
     -- a (RULES 8.5): a fresh controller that was offered this read gives the start-up, RDA at 201, and at every other clock C0000, at 200
     -- too
     row (level (gives (derived institute) (queued start bank0Read) (words 0 (startUpPairs ++ (readAt 201 0 ∷ [])) 1))) 1
     ∷ checkerCases
-    ++ wiringCases
-    ++ powerDownCases
-    ++ relaxedCases
-    ++ limitsCases
-    ++ durationCases
 
 -- every row is as it should be
 pub cases : agree table ≡ true

@@ -1,27 +1,16 @@
--- The figures of sheet E, and cases b to h of the paper's section "Clocks on either edge, sheet E", as rows of one table; behind case e
--- the edges of rule 3 for one REF word and for more than eight. Cases puts case a before them, and computes all.
+-- The figures of sheet E, and cases b to h of the paper's section "Clocks on either edge, sheet E", as rows of one table. Cases puts case a
+-- before them, and computes all.
 use Prim.Native.Nat.{ℕ, _+_, _*_}
 use mathlib.Core.Bool.{Bool, true, _&&_}
 use mathlib.Core.List.{List, [], _∷_, _++_}
 use lib.Dec.{eqb}
 use Rattle.basics.specs.Outcome.{Outcome, value, refused}
-use Rattle.config.specs.Configuration.{institute, derived, timingOf}
-use Rattle.config.specs.declared.Config.{Config}
+use Rattle.config.specs.Configuration.{institute, derived, timingOf, wiredOf}
 use Rattle.writing.specs.Writing.{writePair}
 use Rattle.command.specs.declared.operation.Operation.the-variants.{Access}
 use Rattle.command.specs.declared.operation.Pair.{Pair}
 use Rattle.rules.specs.Verdict.{Judgement, accepted, breach, checkOf}
-use Rattle.former.specs.Former.{formerJudge}
 use Rattle.model.specs.Traces.{At, words, startUpPairs, readAt, writeAt, modeAt, refreshAt, bank1}
-
--- behind the start-up, whose REF words are at 15 and 33, the refreshes up to the ninth, as soon as rules 10 and 12 allow: with REF words
--- at 51, 69, 87, 105, 123, 141 and 656
-abbrev pub upToNine : List At
-upToNine = refreshAt 50 ∷ refreshAt 68 ∷ refreshAt 86 ∷ refreshAt 104 ∷ refreshAt 122 ∷ refreshAt 140 ∷ refreshAt 655 ∷ []
-
--- and up to the tenth, at 674
-abbrev pub upToTen : List At
-upToTen = upToNine ++ (refreshAt 673 ∷ [])
 
 -- an outcome as one number: 0 for accepted, the refusal's number, or the breach's clock and, in the last two digits, its number
 abbrev pub number : Outcome Judgement → ℕ
@@ -29,34 +18,9 @@ number (value accepted) = 0
 number (value (breach k n)) = k * 100 + n
 number (refused n) = n
 
--- the verdict on these pairs, and DESL behind them
-abbrev pub verdictOf : List At → ℕ → ℕ
-verdictOf ps more = number (checkOf institute (words 0 ps more))
-
 -- the verdict on the start-up, these pairs, and DESL behind them
 abbrev pub verdictOn : List At → ℕ → ℕ
-verdictOn ps more = verdictOf (startUpPairs ++ ps) more
-
--- sheet E with another CL, BL, grade, period and wiring
-abbrev pub sheetOf : ℕ → ℕ → ℕ → ℕ → ℕ → Config
-sheetOf cl bl grade period wiring =
-    record {
-      grade = grade;
-      cl = cl;
-      bl = bl;
-      organisation = institute .organisation;
-      period = record { 0 = period };
-      rbd = institute .rbd;
-      rwd = institute .rwd;
-      wrd = institute .wrd;
-      rsc = institute .rsc;
-      refc = institute .refc;
-      wiring = wiring;
-    }
-
--- with another grade, period and wiring alone
-abbrev pub sheetWith : ℕ → ℕ → ℕ → Config
-sheetWith grade period wiring = sheetOf (institute .cl) (institute .bl) grade period wiring
+verdictOn ps more = number (checkOf institute (words 0 (startUpPairs ++ ps) more))
 
 -- the number of a refusal, or 0
 abbrev pub refusal : {A : Type 0} → Outcome A → ℕ
@@ -77,7 +41,7 @@ abbrev pub lalOf : Outcome Pair → ℕ
 lalOf (value p) = p .second
 lalOf (refused n) = 0
 
--- the figures of sheet E, cases b to h, and behind e the edges of rule 3
+-- the figures of sheet E, and cases b to h
 abbrev pub checkerCases : List Row
 checkerCases =
     -- the figures of sheet E (RULES 1.3)
@@ -97,24 +61,14 @@ checkerCases =
     ∷ row (verdictOn (refreshAt 812 ∷ []) 0) 0
     ∷ row (verdictOn [] 1542) 0
     ∷ row (verdictOn [] 1543) 157603
-    -- the former rule 3 went by the one at 33 alone, so not all that passes passed before
-    ∷ row (number (value (formerJudge (derived institute) (words 0 startUpPairs 1542)))) 81403
-    -- one REF word, at 15, up to D after it and one clock more
-    ∷ row (verdictOf (refreshAt 14 ∷ []) 780) 0
-    ∷ row (verdictOf (refreshAt 14 ∷ []) 781) 79603
-    -- nine and ten REF words, up to 8 × D after the eighth last, which is at 33 and at 51, and one clock more
-    ∷ row (verdictOn upToNine 5617) 0
-    ∷ row (verdictOn upToNine 5618) 627403
-    ∷ row (verdictOn upToTen 5617) 0
-    ∷ row (verdictOn upToTen 5618) 629203
     -- f (RULES 4.11): after a read a mode, CL + BL / 2 behind the LAL and one clock less
     ∷ row (verdictOn (readAt 201 0 ∷ modeAt 208 ∷ []) 0) 0
     ∷ row (verdictOn (readAt 201 0 ∷ modeAt 207 ∷ []) 0) 20811
     -- g (RULES 2.7): the LAL of a write of column 0 with four words in each lane
     ∷ row (lalOf (writePair institute (Access (record { write = true; bank = 0; row = 0; column = 0; lower = 4; upper = 4 })))) 0xD1000
     -- h (RULES 1.2): the least period of grade 37 at CL 4, and one picosecond less
-    ∷ row (refusal (timingOf (sheetWith 37 4500 8))) 0
-    ∷ row (refusal (timingOf (sheetWith 37 4499 8))) 21
+    ∷ row (refusal (timingOf (wiredOf 37 4 4 16 4500 2 3 1 7 18 8))) 0
+    ∷ row (refusal (timingOf (wiredOf 37 4 4 16 4499 2 3 1 7 18 8))) 21
     ∷ []
 
 -- in every row what is found is what is expected

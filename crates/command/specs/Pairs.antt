@@ -30,3 +30,7 @@ isMode first second = rda first && not (lal second)
 -- WRA and REF
 abbrev pub isRefresh : ℕ → ℕ → Bool
 isRefresh first second = not (rda first) && not (lal second)
+
+-- DESL as it is written (RULES 2.7)
+abbrev pub desl : ℕ
+desl = 0xC0000

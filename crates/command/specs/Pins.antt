@@ -11,7 +11,7 @@ pins n width w = w / 2 ^ n % 2 ^ width
 abbrev pub high : ℕ → ℕ → Bool
 high n w = eqb (pins n 1 w) 1
 
--- the same by the pin's weight, 2 ^ n, as the code names pins; there is no pin of weight 0
+-- the pin of a weight, 2 ^ n, is high: the code names pins so; there is no pin of weight 0
 abbrev pub highBy : ℕ → ℕ → Bool
 highBy pin w = not (eqb pin 0) && eqb (w / pin % 2) 1
 

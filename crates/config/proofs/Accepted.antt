@@ -1,14 +1,15 @@
--- A call that gave a value had an accepted configuration: all its tests held, and its timing is the derived one. Assumes nothing.
+-- A call that gave a value had an accepted configuration: all its tests held, and its timing is the derived one. So had one that refused by
+-- a number which no configuration is refused by.
 use Prim.Native.Nat.{ℕ, _<_}
 use mathlib.Core.Path.{_≡_}
 use mathlib.Core.Bool.{true}
 use native.Mathlib.Omega.{arith}
 use lib.Dec.{eqb}
-use Rattle.basics.specs.Outcome.{Outcome, value, given}
+use Rattle.basics.specs.Outcome.{Outcome, value, refused, given}
 use Rattle.config.specs.Configuration.{partFits, wiringFits, periodFits, countsFit, refreshFits, derived, timingOf}
 use Rattle.config.specs.declared.Config.{Config}
 use Rattle.config.specs.declared.Timing.{Timing}
-use Rattle.basics.proofs.Outcomes.{require-value, given-value, Not, value-not, require-not}
+use Rattle.basics.proofs.Outcomes.{require-value, given-value, Not, value-not, require-not, given-behind}
 
 pub record Accepted (c : Config) : Type 0 where
   pub part : partFits c ≡ true
@@ -34,11 +35,19 @@ pub timing-is : (c : Config) → Accepted c → timingOf c ≡ value (derived c)
 timing-is c a = rw (a .part, a .wiring, a .period, a .counts, a .refresh)
 
 -- what such a call came to, at the derived timing
-pub behind : {B : Type 0} (c : Config) (f : Timing → Outcome B) {b : B} → given (timingOf c) f ≡ value b → Accepted c × (f (derived c) ≡ value b)
+pub behind : {B : Type 0} (c : Config) (f : Timing → Outcome B) {b : B} → given (timingOf c) f ≡ value b
+    → Accepted c × (f (derived c) ≡ value b)
 behind c f e =
     let g = given-value (timingOf c) f e in
     let a = accepted c (g .0) (g .1) in
     (a .0, rw (a .1) (g .2))
+
+pub behind-refusal : {B : Type 0} (c : Config) {n : ℕ} (f : Timing → Outcome B) → Not n (timingOf c) → given (timingOf c) f ≡ refused n
+    → (timingOf c ≡ value (derived c)) × (f (derived c) ≡ refused n)
+behind-refusal c f h e =
+    let g = given-behind (timingOf c) f h e in
+    let a = accepted c (g .0) (g .1) in
+    (timing-is c (a .0), rw (a .1) (g .2))
 
 -- a configuration is refused by these five numbers alone
 config-not : (c : Config) (n : ℕ) → (20 ≡ n → ⊥) → (34 ≡ n → ⊥) → (21 ≡ n → ⊥) → (22 ≡ n → ⊥) → (33 ≡ n → ⊥) → Not n (timingOf c)
@@ -56,3 +65,7 @@ config-19 c = config-not c 19 (λ e. omega arith) (λ e. omega arith) (λ e. ome
 -- nor by a number between 22 and 33
 pub config-between : (c : Config) (n : ℕ) → 22 < n → n < 33 → Not n (timingOf c)
 config-between c n low high = config-not c n (λ e. omega arith) (λ e. omega arith) (λ e. omega arith) (λ e. omega arith) (λ e. omega arith)
+
+-- nor by one above 34
+pub config-above : (c : Config) (n : ℕ) → 34 < n → Not n (timingOf c)
+config-above c n high = config-not c n (λ e. omega arith) (λ e. omega arith) (λ e. omega arith) (λ e. omega arith) (λ e. omega arith)

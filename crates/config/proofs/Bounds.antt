@@ -1,5 +1,4 @@
 -- What a configuration that passes its tests keeps within: each test of specs/ as the orders that it stands for.
--- Assumes nothing.
 use Prim.Native.Nat.{ℕ, zero, suc, _-_, _≤_, _<_}
 use mathlib.Core.Path.{_≡_, refl}
 use mathlib.Core.List.{[]}

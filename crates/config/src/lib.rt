@@ -7,7 +7,8 @@ use basics::Refusal;
 use basics::choose;
 ghost use mathlib.Core.Path.{_≡_};
 ghost use Prim.Native.Nat.{_≤_, _<_, max};
-ghost use Rattle.config.specs.Configuration.{leastPeriod, partFits, wiringFits, periodFits, countsFit, refreshFits, derived, timingOf, institute};
+ghost use Rattle.config.specs.Configuration.{leastPeriod, partFits, wiringFits, periodFits, countsFit, refreshFits};
+ghost use Rattle.config.specs.Configuration.{derived, timingOf, institute};
 ghost use Rattle.config.specs.Answers.{timingOutcome};
 
 // A time in whole picoseconds: a type of its own, so that it is never taken for a count of clocks.
@@ -49,7 +50,7 @@ pub struct Timing {
     refc: u32,
     rc: u32,
     wl: u32,
-    // The longest time from one REF word to the next (the paper's D).
+    // The longest time from a REF word to the next on the average of up to eight, rule 3 (the paper's D).
     refi: u32,
     // The least span of eight refresh intervals (the paper's W).
     window: u32,
@@ -68,7 +69,7 @@ const LEAST_PERIOD: [[u32; 3]; 2] = [[5500, 4500, 3750], [6000, 5500, 5000]];
 
 const GREATEST_PERIOD: u32 = 8500;
 
-fn larger(x: u32, y: u32) -> u32
+fn greater(x: u32, y: u32) -> u32
     ensures { λ r. ⌜ r ≡ max x y ⌝ }
 {
     if x < y { y } else { x }
@@ -150,8 +151,8 @@ impl Config {
         let refi = 3900000 / self.period.0;
         let window = 3200000 / self.period.0 + 1;
         let cycle = choose(self.cl == 5, 6, 5);
-        let turnaround = larger(self.rwd.0 + 1, self.wrd.0 + 1);
-        let spacing = larger(larger(cycle, self.rbd.0), turnaround);
+        let turnaround = greater(self.rwd.0 + 1, self.wrd.0 + 1);
+        let spacing = greater(greater(cycle, self.rbd.0), turnaround);
         Timing {
             cl: self.cl,
             bl: self.bl,

@@ -4,6 +4,7 @@ use mathlib.Core.Bool.{Bool, cond, _&&_, _||_}
 use mathlib.Core.List.{List}
 use lib.ListN.{getD}
 use lib.Dec.{eqb, leb, ltb}
+use Rattle.basics.specs.Numbers.{limit}
 use Rattle.command.specs.Pairs.{selected}
 use Rattle.stamps.specs.Stamps.{isPoweredDown, isExiting}
 use Rattle.stamps.specs.declared.Timestamps.{Timestamps}
@@ -12,7 +13,7 @@ use Rattle.stamps.specs.declared.Timestamps.{Timestamps}
 abbrev pub before : ℕ → ℕ → Bool
 before k c = eqb c 0 || ltb c k
 
--- so is each of eight
+-- each of eight events, if it is remembered, is before the clock
 abbrev pub eightBefore : ℕ → List ℕ → Bool
 eightBefore k cs =
     before k (getD cs 0 0)
@@ -42,4 +43,4 @@ wordsBefore first = cond (selected first) 1 (cond (isPoweredDown first) 1 (cond 
 -- no refusal 19 (RULES 6.19): the clock is at most 16,777,216, every event that is remembered is before it, and there are as many
 -- words before it as what the next one meets asks for
 abbrev pub clockFits : ℕ → ℕ → Timestamps → Bool
-clockFits clock first s = leb clock 16777216 && stampsBefore clock s && leb (wordsBefore first) clock
+clockFits clock first s = leb clock limit && stampsBefore clock s && leb (wordsBefore first) clock

@@ -2,10 +2,11 @@
 use Prim.Native.Nat.{ℕ, _+_, _-_}
 use mathlib.Core.Bool.{Bool, cond, not, _&&_}
 use mathlib.Core.List.{List}
-use lib.ListN.{getD, set, take}
+use lib.ListN.{set, take}
 use lib.Dec.{eqb, leb, ltb}
+use Rattle.command.specs.Pairs.{desl}
 use Rattle.basics.specs.Outcome.{Outcome, value, refused}
-use Rattle.basics.specs.Numbers.{refusalNumber}
+use Rattle.basics.specs.Numbers.{refusalNumber, limit}
 use Rattle.config.specs.Configuration.{timingOf}
 use Rattle.config.specs.declared.Timing.{Timing}
 use Rattle.writing.specs.Writing.{requestFits}
@@ -15,8 +16,9 @@ use Rattle.stamps.specs.Stamps.{remembered}
 use Rattle.rules.specs.Breaches.{wordBreach}
 use Rattle.consistency.specs.Consistency.{clockFits}
 use Rattle.stamps.specs.declared.Timestamps.{Timestamps}
-use Rattle.queue.specs.Queue.{vacant, allFit, movedUp}
-use Rattle.scheduler.specs.Pairs.{pairWords, isOpen, ofOldest, nextPair}
+use Rattle.queue.specs.Place.{closedUp}
+use Rattle.queue.specs.Queue.{vacant, allFit, requestAt}
+use Rattle.scheduler.specs.Pairs.{pairWords, isOpen, ofWaiting, placeOf, chosenAt, nextPair}
 use Rattle.scheduler.specs.declared.OpenPair.{OpenPair}
 use Rattle.scheduler.specs.declared.OpenPair.the-variants.{Nothing}
 use Rattle.controller.specs.declared.Controller.{Controller}
@@ -54,15 +56,15 @@ abbrev pub held : Controller → List Request
 held s = take (s .count) (s .waiting)
 
 -- no refusal 19 (RULES 6.19): the clock is at most 16,777,216 and every event before it, no pair is open at clock 0, at most sixteen
--- wait, each with every field in its range, and where the oldest request's pair is open, one waits. The first word of an open pair is an
--- event too: it stands one clock back.
+-- wait, each with every field in its range, and where a request's pair is open, one waits at its place. The first word of an open pair is
+-- an event too: it stands one clock back.
 abbrev pub stateFits : Timing → Controller → Bool
 stateFits t s =
-    clockFits (s .clock) 0xC0000 (s .stamps)
+    clockFits (s .clock) desl (s .stamps)
     && not (eqb (s .clock) 0 && isOpen (s .opened))
     && leb (s .count) 16
     && allFit t (held s)
-    && not (ofOldest (s .opened) && eqb (s .count) 0)
+    && not (ofWaiting (s .opened) && leb (s .count) (placeOf (s .opened)))
 
 -- an accepted request goes behind those that wait (RULES 8.2)
 abbrev pub joined : Controller → Request → Controller
@@ -99,25 +101,21 @@ offerOf s r = offerBy (timingOf (s .config)) s r
 
 -- neither of the pair's words, the first at this clock, the second at the next, would breach a rule (RULES 8.4)
 abbrev pub passes : Timing → Timestamps → ℕ → Pair → Bool
-passes t s clock w = eqb (wordBreach t s clock 0xC0000 (w .first)) 0 && eqb (wordBreach t s (clock + 1) (w .first) (w .second)) 0
+passes t s clock w = eqb (wordBreach t s clock desl (w .first)) 0 && eqb (wordBreach t s (clock + 1) (w .first) (w .second)) 0
 
--- the request at the head of the queue, or a vacant place
-abbrev pub oldestRequest : Controller → Request
-oldestRequest s = getD (s .waiting) 0 vacant
-
--- the pair that opens at the clock, or none
-abbrev pub opensNext : Timing → Controller → OpenPair
-opensNext t s =
-    let next = nextPair t (s .stamps) (s .clock) (s .count) in
-    cond (passes t (s .stamps) (s .clock) (pairWords t next (oldestRequest s))) next Nothing
+-- the pair that opens at the clock, or none, where the request at place q is chosen; where none waits there, none is chosen
+abbrev pub opensNext : Timing → Controller → ℕ → OpenPair
+opensNext t s q =
+    let next = nextPair t (s .stamps) (s .clock) (chosenAt q (s .count)) in
+    cond (passes t (s .stamps) (s .clock) (pairWords t next (requestAt q (s .waiting)))) next Nothing
 
 -- a tick with no pair open: the first word of the pair that opens, or DESL (RULES 8.3, 8.4)
-abbrev pub starting : Timing → Controller → Tick
-starting t s =
-    let next = opensNext t s in
+abbrev pub starting : Timing → Controller → ℕ → Tick
+starting t s q =
+    let next = opensNext t s q in
     record {
       outcome = value tt;
-      word = pairWords t next (oldestRequest s) .first;
+      word = pairWords t next (requestAt q (s .waiting)) .first;
       after =
           record {
             config = s .config;
@@ -132,7 +130,7 @@ starting t s =
 -- a tick with a pair open: its closing word, with which a request leaves (RULES 8.2, case 1 of 8.3)
 abbrev pub closing : Timing → Controller → Tick
 closing t s =
-    let w = pairWords t (s .opened) (oldestRequest s) in
+    let w = pairWords t (s .opened) (requestAt (placeOf (s .opened)) (s .waiting)) in
     record {
       outcome = value tt;
       word = w .second;
@@ -142,8 +140,8 @@ closing t s =
             clock = s .clock + 1;
             opened = Nothing;
             stamps = remembered (t .four) (s .stamps) (s .clock) (w .first) (w .second);
-            waiting = cond (ofOldest (s .opened)) (movedUp (s .count) (s .waiting)) (s .waiting);
-            count = cond (ofOldest (s .opened)) (s .count - 1) (s .count);
+            waiting = cond (ofWaiting (s .opened)) (closedUp vacant (placeOf (s .opened)) (s .count) (s .waiting)) (s .waiting);
+            count = cond (ofWaiting (s .opened)) (s .count - 1) (s .count);
           };
     }
 
@@ -155,13 +153,17 @@ notTicked s n = record { outcome = refused n; word = 0; after = s }
 abbrev pub tickIf : Bool → ℕ → Controller → Tick → Tick
 tickIf holds n s rest = cond holds rest (notTicked s n)
 
--- the sheet's refusals, 19, 24 at clock 16,777,216, in this order (RULES 7.1); else the word for the clock
+-- 19, 24 at clock 16,777,216, in this order (RULES 7.1); else the word for the clock, where the request at place q is chosen
+abbrev pub tickChoosing : Timing → Controller → ℕ → Tick
+tickChoosing t s q =
+    tickIf (stateFits t s) 19 s
+    (tickIf (ltb (s .clock) limit) 24 s
+    (cond (isOpen (s .opened)) (closing t s) (starting t s q)))
+
+-- the sheet's refusals first (RULES 7.1); the oldest request is chosen
 abbrev pub tickBy : Outcome Timing → Controller → Tick
 tickBy (refused n) s = notTicked s n
-tickBy (value t) s =
-    tickIf (stateFits t s) 19 s
-    (tickIf (ltb (s .clock) 16777216) 24 s
-    (cond (isOpen (s .opened)) (closing t s) (starting t s)))
+tickBy (value t) s = tickChoosing t s 0
 
 -- a tick, of any state
 abbrev pub tickOf : Controller → Tick

@@ -9,15 +9,15 @@ use command::Request;
 use config::Config;
 use config::TimingAnswer;
 use offering::not_offered;
-use offering::offer_by;
 use queue::VACANT;
 use scheduler::OpenPair;
 use stamps::Timestamps;
 use ticking::not_ticked;
-use ticking::tick_by;
 ghost use mathlib.Core.Path.{_≡_};
 ghost use Rattle.controller.specs.States.{fresh};
 ghost use Rattle.controller.specs.Steps.{offered, ticked, offerOf, tickOf};
+pub use offering::offer_by;
+pub use ticking::tick_choosing;
 
 pub struct Controller {
     pub config: Config,
@@ -84,7 +84,7 @@ impl Controller {
         let config = self.config;
         match config.timing() {
             TimingAnswer::Refused(why) => not_ticked(self, why),
-            TimingAnswer::Accepted(timing) => tick_by(timing, self),
+            TimingAnswer::Accepted(timing) => tick_choosing(timing, self, 0),
         }
     }
 }

@@ -2,7 +2,10 @@
 use crate::Controller;
 use command::Pair;
 use config::Timing;
+use queue::request_at;
 use scheduler::OpenPair;
+use scheduler::chosen_at;
+use scheduler::is_open;
 use scheduler::next_pair;
 use scheduler::pair_words;
 use stamps::DESL;
@@ -21,16 +24,21 @@ fn passes(timing: Timing, stamps: Timestamps, clock: u32, pair: Pair) -> bool
     (first == 0) & (second == 0)
 }
 
-// The pair that opens at the clock, or none.
-pub(crate) fn opens_next(timing: Timing, controller: Controller) -> OpenPair
+// The pair that opens at the clock, or none, where the request at a place is chosen. Where none comes next, no words are tested.
+pub(crate) fn opens_next(timing: Timing, controller: Controller, place: u32) -> OpenPair
     requires { ⌜ controller .clock < 16777216 ⌝ }
-    ensures { λ r. ⌜ r ≡ opensNext timing controller ⌝ }
+    ensures { λ r. ⌜ r ≡ opensNext timing controller place ⌝ }
 {
     let stamps = controller.stamps;
-    let waiting = controller.waiting;
     let clock = controller.clock;
-    let next = next_pair(timing, stamps, clock, controller.count);
-    let words = pair_words(timing, next, waiting[0]);
+    let chosen = chosen_at(place, controller.count);
+    let next = next_pair(timing, stamps, clock, chosen);
+    if !is_open(next) {
+        return OpenPair::Nothing;
+    }
+    let waiting = controller.waiting;
+    let request = request_at(waiting, place);
+    let words = pair_words(timing, next, request);
     if passes(timing, stamps, clock, words) {
         next
     } else {

@@ -2,7 +2,8 @@
 use crate::CallAnswer;
 use crate::Controller;
 use crate::Offered;
-use crate::state::state_fits;
+use crate::state::past_fits;
+use crate::state::requests_fit;
 use basics::Refusal;
 use command::Request;
 use config::Timing;
@@ -43,10 +44,12 @@ pub(crate) fn not_offered(controller: Controller, why: Refusal) -> Offered
     }
 }
 
-pub(crate) fn offer_by(timing: Timing, controller: Controller, request: Request) -> Offered
+// An offer, for whoever has the timing, whichever it is: 19, 26 and 27, in this order, and a refusal changes nothing; else the request goes
+// behind those that wait. The state's configuration is not looked at.
+pub fn offer_by(timing: Timing, controller: Controller, request: Request) -> Offered
     ensures { λ r. ⌜ offered r ≡ offerBy (value timing) controller request ⌝ }
 {
-    if !state_fits(timing, controller) {
+    if !(past_fits(controller) & requests_fit(timing, controller)) {
         return not_offered(controller, Refusal::State);
     }
     if !writing::request_fits(timing, request) {

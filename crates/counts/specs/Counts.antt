@@ -15,9 +15,9 @@ use Rattle.counts.specs.declared.CountsAnswer.{CountsAnswer}
 use Rattle.counts.specs.declared.CountsAnswer.the-variants.{Counted, Refused}
 
 -- how many closed pairs have a property
-abbrev pub count : (ClosedPair → Bool) → List ClosedPair → ℕ
-count f [] = 0
-count f (p ∷ ps) = level (f p) + count f ps
+abbrev pub howMany : (ClosedPair → Bool) → List ClosedPair → ℕ
+howMany f [] = 0
+howMany f (p ∷ ps) = level (f p) + howMany f ps
 
 -- 1 for DESL, which is CS high where no pair is open (RULES 2.2); a word with PD low counts as one there, whatever its CS (RULES 2.8)
 abbrev pub deslAt : Phase → ℕ → ℕ
@@ -34,10 +34,10 @@ abbrev pub countsOf : List ℕ → CommandCounts
 countsOf words =
     let pairs = pastFrom nothing words .pairs in
     record {
-      reads = count wasRead pairs;
-      writes = count wasWrite pairs;
-      modes = count wasMode pairs;
-      refreshes = count wasRefresh pairs;
+      reads = howMany wasRead pairs;
+      writes = howMany wasWrite pairs;
+      modes = howMany wasMode pairs;
+      refreshes = howMany wasRefresh pairs;
       desls = deslsFrom nothing words;
     }
 
@@ -57,4 +57,5 @@ countingOutcome (Refused r c) = record { number = refusalNumber r; counts = c }
 
 -- the counts of at most 65,536 words; of more refusal 30, and counts that are all 0 (RULES 6.30, 7.2)
 abbrev pub countingOf : List ℕ → Counting
-countingOf words = cond (leb (length words) 65536) (record { number = 0; counts = countsOf words }) (record { number = 30; counts = noCounts })
+countingOf words =
+    cond (leb (length words) 65536) (record { number = 0; counts = countsOf words }) (record { number = 30; counts = noCounts })

@@ -1,3 +1,3 @@
--- What the contracts of this crate say; Turn is for a single turn of the loop.
+-- What the contracts of this crate say; OneWord is for the loop, which goes word by word.
 pub mod Counts
-pub mod Turn
+pub mod OneWord

@@ -6,12 +6,12 @@ use command::pins::PD;
 use command::pins::bit;
 use command::pins::high;
 use stamps::DESL;
-use stamps::next_first;
+use stamps::next_met;
 ghost use mathlib.Core.Path.{_≡_};
 ghost use Prim.Native.Nat.{_+_, _≤_, _<_};
 ghost use lib.ListN.{length};
 ghost use Rattle.counts.specs.Counts.{countsOf, countingOutcome, countingOf};
-ghost use Rattle.counts.specs.Turn.{counted, Below};
+ghost use Rattle.counts.specs.OneWord.{counted, Below};
 
 // How many reads, writes, modes and refreshes were closed, and how many words were DESL or, outside of pairs, had PD low.
 pub struct CommandCounts {
@@ -64,7 +64,7 @@ fn counts_of(words: &[u32]) -> CommandCounts
     while i < words.len() {
         let word = words[i];
         counts = counted(counts, i, first, word);
-        first = next_first(first, word);
+        first = next_met(first, word);
         i += 1;
     }
     counts

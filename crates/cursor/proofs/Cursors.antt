@@ -31,9 +31,9 @@ use denote.Struct.Rest.{own-put}
 use Rattle.config.specs.declared.Config.{Config}
 use Rattle.config.proofs.Config as F
 use Rattle.config.proofs.Config.Laws as F′
-use Rattle.protocol.specs.declared.checker.Checker.{Checker}
-use Rattle.protocol.proofs.checker.Checker as K
-use Rattle.protocol.proofs.checker.Checker.Laws as K′
+use Rattle.checker.specs.declared.checker.Checker.{Checker}
+use Rattle.checker.proofs.checker.Checker as K
+use Rattle.checker.proofs.checker.Checker.Laws as K′
 use Rattle.borrowed.proofs.Behind.{owned-data}
 use Rattle.cursor.specs.declared.TraceCursor.{TraceCursor}
 use Rattle.walks.specs.declared.Moved.{Moved}
@@ -74,7 +74,8 @@ abbrev pub with-checker : TraceCursor → Checker → TraceCursor
 with-checker d k = record { words = d .words; checker = k }
 
 -- ---- the relations
-pub checker-is : (κ : Lft) (d : TraceCursor) → Is (Cursor κ) d (cursorVal κ d ∷ []) → Is K.the-row (d .checker) (checkerVal (d .checker) ∷ [])
+pub checker-is : (κ : Lft) (d : TraceCursor) → Is (Cursor κ) d (cursorVal κ d ∷ [])
+    → Is K.the-row (d .checker) (checkerVal (d .checker) ∷ [])
 checker-is κ d is = LL.owed (D κ) (L κ) d _ is .1 .0
 
 -- ---- two parameters, words and another

@@ -1,3 +1,2 @@
--- Excluded: what wrong programs would give. Cursors: what the proofs by hand have in common, over Behind of `borrowed`.
-pub mod Excluded
+-- What the proofs by hand have in common, over Behind of `borrowed`.
 pub mod Cursors

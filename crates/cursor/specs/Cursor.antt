@@ -4,7 +4,7 @@ use mathlib.Core.List.{List}
 use Prim.Native.Nat.{ℕ}
 use denote.Ref.{RefT, now}
 use Rattle.config.specs.declared.Config.{Config}
-use Rattle.protocol.specs.Steps.{fresh}
+use Rattle.checker.specs.Steps.{fresh}
 use Rattle.walks.specs.Walk.{MovePromised}
 use Rattle.walks.specs.declared.Progress.{Progress}
 use Rattle.cursor.specs.declared.TraceCursor.{TraceCursor}

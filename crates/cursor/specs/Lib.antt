@@ -1,3 +1,2 @@
--- What the calls on a cursor promise, and results that their contracts exclude.
+-- What the calls on a cursor promise.
 pub mod Cursor
-pub mod Excluded

@@ -1,6 +1,6 @@
 // A walk over lent words (RULES 5.5): an advance judges the next one.
+use checker::Checker;
 use config::Config;
-use protocol::Checker;
 use walks::Progress;
 use walks::next_word;
 ghost use Rattle.cursor.specs.Cursor.{AdvancePromised, NewPromised};

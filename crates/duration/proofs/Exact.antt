@@ -1,32 +1,24 @@
--- The theorem of specs/Exact: quotient and remainder by 1,000 are the two numbers of which the sentence holds. Assumes nothing.
+-- The theorem of specs/Exact: quotient and remainder by 1,000 are the two numbers of which the sentence holds.
 use Prim.Native.Nat.{ℕ, _*_, _/_, _%_, _<_}
-use mathlib.Core.Path.{_≡_, refl, sym, _∙_}
-use mathlib.Core.Bool.{Bool, true, false}
+use mathlib.Core.Path.{_≡_, refl, _∙_}
 use native.Mathlib.Omega.{arith}
 use borrow.Author.Tests.{leb-true, leb-false}
 use lib.Dec.{leb}
-use Rattle.basics.specs.Outcome.{Outcome, value, refused, require, given}
-use Rattle.basics.proofs.Outcomes.{refused-value, require-value, Not}
+use Rattle.basics.specs.Outcome.{value, refused}
+use Rattle.basics.proofs.Outcomes.{require-value, value-not, require-fails}
 use Rattle.config.specs.Configuration.{derived, timingOf}
 use Rattle.config.specs.declared.Config.{Config}
-use Rattle.config.specs.declared.Timing.{Timing}
-use Rattle.config.proofs.Accepted.{accepted, behind, timing-is, config-between}
+use Rattle.config.proofs.Accepted.{behind, timing-is, behind-refusal, config-between}
 use Rattle.duration.specs.declared.Duration.{Duration}
 use Rattle.duration.specs.Duration.{inNanoseconds, durationOf}
 use Rattle.duration.specs.Exact.{Exact, Taken, Lengths}
 use Rattle.duration.proofs.Ways.{long, lasting}
 
 -- behind a 32 lie an accepted sheet, since no sheet is refused by that, and a test of the limit that fails
-behind-32 : (x : Outcome Timing) (b : Bool) (d : Duration) → Not 32 x → given x (λ t. require b 32 (value d)) ≡ refused 32
-    → ((t : Timing) × (x ≡ value t)) × (b ≡ false)
-behind-32 (value t) true d h e = absurd (refused-value (sym e))
-behind-32 (value t) false d h e = ((t, refl), refl)
-behind-32 (refused m) b d h e = absurd (h cc)
-
 only-long : (c : Config) (n : ℕ) → durationOf c n ≡ refused 32 → (timingOf c ≡ value (derived c)) × (16777216 < n)
 only-long c n e =
-    let h = behind-32 (timingOf c) (leb n 16777216) _ (config-between c 32 (omega arith) (omega arith)) e in
-    (timing-is c (accepted c (h .0 .0) (h .0 .1) .0), leb-false n 16777216 (h .1))
+    let h = behind-refusal c _ (config-between c 32 (omega arith) (omega arith)) e in
+    (h .0, leb-false n 16777216 (require-fails (leb n 16777216) _ (value-not 32 _) (h .1)))
 
 module _ (c : Config) (n : ℕ) (d : Duration) where
   -- what lies behind an answer

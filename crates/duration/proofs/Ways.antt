@@ -1,4 +1,4 @@
--- The three ways that the call goes: the sheet's refusal, 32, and so many periods. Assumes nothing.
+-- The three ways that the call goes: the sheet's refusal, 32, and so many periods.
 use Prim.Native.Nat.{ℕ, _*_, _≤_, _<_}
 use mathlib.Core.Path.{_≡_}
 use borrow.Author.Tests.{le-leb, lt-leb}

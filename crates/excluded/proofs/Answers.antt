@@ -1,4 +1,4 @@
--- Each definition has an inverse, from the paper's terms back to the answer. Assumes nothing.
+-- Each definition has an inverse, from the paper's terms back to the answer.
 use Prim.Native.Nat.{ℕ, _-_}
 use mathlib.Core.Path.{_≡_, refl, sym, _∙_, ap}
 use mathlib.Core.List.{List, [], _∷_}
@@ -10,7 +10,24 @@ use Rattle.config.specs.Answers.{timingOutcome}
 use Rattle.config.specs.declared.Timing.{Timing}
 use Rattle.config.specs.declared.TimingAnswer.{TimingAnswer}
 use Rattle.basics.specs.declared.refusal.Refusal.{Refusal}
-use Rattle.basics.specs.declared.refusal.Refusal.the-variants.{State, Part, Period, Count, InBreach, ClockLimit, InputSize, Field, QueueFull, NotAPair, PartialWord, TooLong, WordCount, ShortRefresh, Wiring, Limits}
+use Rattle.basics.specs.declared.refusal.Refusal.the-variants.{
+  State,
+  Part,
+  Period,
+  Count,
+  InBreach,
+  ClockLimit,
+  InputSize,
+  Field,
+  QueueFull,
+  NotAPair,
+  PartialWord,
+  TooLong,
+  WordCount,
+  ShortRefresh,
+  Wiring,
+  Limits,
+}
 use Rattle.reading.specs.Answers.{readOutcome}
 use Rattle.writing.specs.Answers.{writeOutcome}
 use Rattle.command.specs.declared.operation.Operation.{Operation}
@@ -18,8 +35,8 @@ use Rattle.command.specs.declared.operation.Pair.{Pair}
 use Rattle.reading.specs.declared.ReadAnswer.{ReadAnswer}
 use Rattle.writing.specs.declared.WriteAnswer.{WriteAnswer}
 use Rattle.rules.specs.Verdict.{Judgement, accepted, breach}
-use Rattle.protocol.specs.Steps.{verdictOutcome}
-use Rattle.protocol.specs.declared.checker.Verdict.{Verdict}
+use Rattle.checker.specs.Steps.{verdictOutcome}
+use Rattle.checker.specs.declared.checker.Verdict.{Verdict}
 use Rattle.limits.specs.Limits.{Finding, always, breachOn}
 use Rattle.limits.specs.Answers.{findingOutcome}
 use Rattle.limits.specs.declared.LimitsAnswer.{LimitsAnswer}

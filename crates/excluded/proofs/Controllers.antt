@@ -1,9 +1,9 @@
--- Words that put nothing out have no first word but one at their last clock, if a pair is open there. Words that put out something else differ
--- at a place before the requests that the controller holds. The calls go by rows of refusals. Assumes nothing.
+-- Words that put nothing out have no first word but one at their last clock, if a pair is open there. Words that put out something else
+-- differ at a place before the requests that the controller holds. The calls go by rows of refusals.
 use Prim.Native.Nat.{ℕ, zero, suc, _+_, _-_, _≤_, _<_}
 use mathlib.Core.Path.{_≡_, refl, sym, _∙_, ap}
 use mathlib.Core.Bool.{Bool, true, false, cond, false≢true}
-use mathlib.Core.List.{List, [], _∷_}
+use mathlib.Core.List.{List, [], _∷_, _++_}
 use native.Mathlib.Omega.{arith}
 use borrow.Author.Tests.{lt-ltb, ltb-true}
 use lib.ListN.{length, getD, replicate, length-append, List·getD-append}
@@ -18,14 +18,28 @@ use Rattle.command.specs.declared.operation.Request.{Request}
 use Rattle.rules.specs.History.{ClosedPair, free, pastFrom}
 use Rattle.queue.specs.Queue.{vacant}
 use Rattle.scheduler.specs.Pairs.{isOpen}
-use Rattle.controller.specs.Steps.{held, callOutcome, stateFits, joined, offerIf, offerBy, offerOf, closing, starting, tickIf, tickBy, tickOf}
+use Rattle.controller.specs.Steps.{
+  held,
+  callOutcome,
+  stateFits,
+  joined,
+  offerIf,
+  offerBy,
+  offerOf,
+  closing,
+  starting,
+  tickIf,
+  tickBy,
+  tickOf,
+}
 use Rattle.controller.specs.declared.Controller.{Controller}
 use Rattle.controller.specs.declared.CallAnswer.{CallAnswer}
-use Rattle.model.specs.Runs.{Call, offer, tick, Accepted, Run, prescribed, pairsOf, starts, accessOpen, latestStart}
+use Rattle.rules.specs.Turns.{pairsOf, starts}
+use Rattle.model.specs.Runs.{Call, offer, tick, Accepted, Run, prescribed, accessOpen, latestStart}
 use Rattle.forms.specs.EitherForm.{Form, byValue, borrowed, Promised}
-use Rattle.forms.specs.Excluded.{Never}
+use Rattle.excluded.specs.Calls.{Never}
 use Rattle.model.specs.Demand3.{putOut, taken, InOrder, Prompt}
-use Rattle.excluded.specs.Excluded.{idleRun, fakedRun, Controllers}
+use Rattle.excluded.specs.Excluded.{idleCalls, idleRun, fakedRun, Controllers}
 use Rattle.config.proofs.Accepted.{config-between}
 
 nothing-out : (t : Timing) (calls : List Call) (r : Run) (a : Accepted) (newer : List Accepted) → r .accepted ≡ a ∷ newer
@@ -37,10 +51,20 @@ nothing-out t calls r a newer e empty late h =
     by true p = omega arith
     by false p = omega arith
 
+-- and none at all, if none is open
+none-open : (t : Timing) (calls : List Call) (r : Run) (a : Accepted) (newer : List Accepted) → r .accepted ≡ a ∷ newer
+    → starts (pairsOf (r .words)) ≡ [] → accessOpen (prescribed t calls .course .opened) ≡ false → latestStart t a < length (r .words)
+    → Prompt t calls r → ⊥
+none-open t calls r a newer e empty closed late h = omega (arith, rw (empty, closed) at (h [] newer a e late .0))
+
 -- DESL closes no pair
 desls-close : (n k : ℕ) (ps : List ClosedPair) → pastFrom (record { clock = k; phase = free; pairs = ps }) (replicate n 0xC0000) .pairs ≡ ps
 desls-close zero k ps = refl
 desls-close (suc n) k ps = desls-close n (k + 1) ps
+
+only-one : (x a : Accepted) (older newer : List Accepted) → x ∷ [] ≡ older ++ a ∷ newer → a ≡ x
+only-one x a [] newer e = cc
+only-one x a (o ∷ older) newer e = absurd (omega (arith, simp length-append at (ap length e)))
 
 another-request : (t : Timing) (r : Run) (n : ℕ) → n < length (putOut t r)
     → (getD (putOut t r) n vacant ≡ getD (taken r) n vacant → ⊥) → InOrder t r → ⊥
@@ -93,7 +117,7 @@ tickAnswer s t = require (stateFits t s) 19 (require (ltb (s .clock) 16777216) 2
 tick-is : (s : Controller) → tickOf s .outcome ≡ given (timingOf (s .config)) (tickAnswer s)
 tick-is s = go (timingOf (s .config))
   where
-    by : (t : Timing) (a b d : Bool) → tickIf a 19 s (tickIf b 24 s (cond d (closing t s) (starting t s))) .outcome
+    by : (t : Timing) (a b d : Bool) → tickIf a 19 s (tickIf b 24 s (cond d (closing t s) (starting t s 0))) .outcome
         ≡ require a 19 (require b 24 (value tt))
     by t true true true = refl
     by t true true false = refl
@@ -118,6 +142,8 @@ controllers =
       only-start-up =
           λ desls calls s late.
           nothing-out (derived institute) calls (idleRun desls s) _ [] refl (ap starts (desls-close desls 34 _)) (omega arith);
+      at-the-bound = λ s. none-open (derived institute) (idleCalls 230) (idleRun 196 s) _ [] refl refl refl (omega arith);
+      not-before = λ s older newer a e late. absurd (omega (arith, rw (only-one _ a older newer e) at late));
       nothing-out = nothing-out;
       faked-rest =
           λ all s e.

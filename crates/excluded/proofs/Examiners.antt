@@ -1,4 +1,4 @@
--- A check that is not refused gives the judgement, which computes on these traces. A step refuses, or it judges its word. Assumes nothing.
+-- A check that is not refused gives the judgement, which computes on these traces. A step refuses, or it judges its word.
 use Prim.Native.Nat.{ℕ, zero, suc, _+_, _/_, _%_}
 use mathlib.Core.Path.{_≡_, refl, sym, _∙_, ap}
 use mathlib.Core.List.{List, [], _∷_}
@@ -16,10 +16,10 @@ use Rattle.rules.specs.Verdict.{Judgement, accepted, breach, judgeFrom, judge, 
 use Rattle.rules.specs.History.{free}
 use Rattle.rules.specs.Breaches.{wordBreach}
 use Rattle.consistency.specs.Consistency.{clockFits}
-use Rattle.protocol.specs.Steps.{Step, verdictOutcome, fresh, refusing, judged, stepBy, stepOf}
-use Rattle.protocol.specs.declared.checker.Checker.{Checker}
-use Rattle.protocol.specs.declared.checker.Verdict.{Verdict}
-use Rattle.protocol.proofs.Refinement.{cond-case}
+use Rattle.checker.specs.Steps.{Step, verdictOutcome, fresh, refusing, judged, stepBy, stepOf}
+use Rattle.checker.specs.declared.checker.Checker.{Checker}
+use Rattle.checker.specs.declared.checker.Verdict.{Verdict}
+use Rattle.checker.proofs.Refinement.{cond-case}
 use Rattle.excluded.specs.Excluded.{NoStep, wrongMode, wrongModeBytes, Examiners}
 
 check-judges : (c : Config) (ws : List ℕ) {j : Judgement} → value j ≡ checkOf c ws → (t : Timing) × (value (judge t ws) ≡ value j)
@@ -45,14 +45,15 @@ desls-pass t zero k = refl
 desls-pass t (suc n) k = desls-pass t n (k + 1)
 
 -- what holds of a refusal, and of a word that is judged where no breach is recorded, holds of a step
-step-case : (P : Step → Type 0) (s : Checker) (w : ℕ) → ((n : ℕ) → P (refusing s n)) → ((t : Timing) → s .breach .number ≡ 0 → P (judged t s w))
+step-case : (P : Step → Type 0) (s : Checker) (w : ℕ) → ((n : ℕ) → P (refusing s n))
+    → ((t : Timing) → s .breach .number ≡ 0 → P (judged t s w))
     → P (stepOf s w)
 step-case P s w refuses judges = go (timingOf (s .config))
   where
     go : (o : Outcome Timing) → P (stepBy o s w)
     go (refused n) = refuses n
     go (value t) =
-        cond-case P (clockFits (s .clock) (s .first) (s .stamps)) _ _
+        cond-case P (clockFits (s .clock) (s .met) (s .stamps)) _ _
         (λ _. cond-case P (eqb (s .breach .number) 0) _ _
         (λ e. cond-case P (ltb (s .clock) 16777216) _ _ (λ _. judges t (eqb-true (s .breach .number) 0 e)) (λ _. refuses 24))
         (λ _. refuses 23))
@@ -68,7 +69,7 @@ pub step-moves : (s : Checker) (w : ℕ) → Moves s (stepOf s w)
 step-moves s w =
     step-case (Moves s) s w
     (λ n. record { passes = λ e. absurd (refused-value e); stays = λ _. refl; records = λ e _. refused-value e })
-    (λ t free. let n = wordBreach t (s .stamps) (s .clock) (s .first) w in
+    (λ t free. let n = wordBreach t (s .stamps) (s .clock) (s .met) w in
     cond-case (Moves s) (eqb n 0) _ _
     (λ _. record { passes = λ _. refl; stays = λ h. absurd (h refl); records = λ e _. accepted-breach e })
     (λ some. record { passes = λ e. absurd (breach-accepted e); stays = λ _. refl; records = λ _ e. eqb-false n 0 some (e ∙ free) }))
@@ -97,7 +98,8 @@ examiners =
       step-breaches =
           λ c b after.
           no-step (fresh c) after 0xC0000 (Verdict.InBreach b)
-          (λ e _. step-case (λ r. r .outcome ≡ verdictOutcome (Verdict.InBreach b) → ⊥) (fresh c) 0xC0000 (λ n. refused-value) (λ t _. accepted-breach) e);
+          (λ e _. step-case (λ r. r .outcome ≡ verdictOutcome (Verdict.InBreach b) → ⊥) (fresh c) 0xC0000 (λ n. refused-value)
+          (λ t _. accepted-breach) e);
       step-stays = λ s after w h. no-step s after w Verdict.Accepted (λ o e. h (sym (ap (λ k. k .clock) e) ∙ step-moves s w .passes o));
       step-stays-in-breach = λ s w b. no-step s s w (Verdict.InBreach b) (λ o e. step-moves s w .records o (ap (λ k. k .breach .number) e));
       check-stays = λ c t v e p. breach-accepted {k = 1} {n = 4} (check-judges c wrongMode (sym e ∙ p) .1);

@@ -1,4 +1,4 @@
--- A tally's contract is an equation of the counts, too long or not. Assumes nothing.
+-- A tally's contract is an equation of the counts, too long or not.
 use Prim.Native.Nat.{ℕ}
 use mathlib.Core.Path.{_≡_, sym, _∙_, ap}
 use mathlib.Core.Bool.{Bool, true, false, cond}
@@ -15,7 +15,8 @@ no-tally : (ws : List ℕ) (a : CountsAnswer) → (countingOutcome a ≡ record 
     → (countingOutcome a ≡ record { number = 30; counts = noCounts } → ⊥) → NoTally ws a
 no-tally ws a counted refused = by (leb (length ws) 65536)
   where
-    by : (b : Bool) → countingOutcome a ≡ cond b (record { number = 0; counts = countsOf ws }) (record { number = 30; counts = noCounts }) → ⊥
+    by : (b : Bool) → countingOutcome a ≡ cond b (record { number = 0; counts = countsOf ws }) (record { number = 30; counts = noCounts })
+        → ⊥
     by true = counted
     by false = refused
 

@@ -1,4 +1,4 @@
--- An advance with a word left is a step on that word, and any other leaves the state. Assumes nothing.
+-- An advance with a word left is a step on that word, and any other leaves the state.
 use Prim.Native.Nat.{ℕ, _≤_, _<_}
 use mathlib.Core.Path.{_≡_, refl, sym, _∙_, ap}
 use mathlib.Core.List.{List}
@@ -11,13 +11,13 @@ use Rattle.config.specs.Configuration.{timingOf}
 use Rattle.basics.proofs.Outcomes.{refused-value, require-value, given-value}
 use Rattle.rules.specs.Verdict.{Judgement, accepted, breach}
 use Rattle.consistency.specs.Consistency.{clockFits}
-use Rattle.protocol.specs.Steps.{stepOf}
-use Rattle.protocol.specs.declared.checker.Checker.{Checker}
+use Rattle.checker.specs.Steps.{stepOf}
+use Rattle.checker.specs.declared.checker.Checker.{Checker}
 use Rattle.walks.specs.Walk.{passed, ended, progressOutcome, ofWord, atEnd}
 use Rattle.walks.specs.declared.Progress.{Progress}
 use Rattle.excluded.specs.Excluded.{NoMove, Walks}
 use Rattle.excluded.proofs.Answers.{same-progress}
-use Rattle.protocol.proofs.Refinement.{cond-case}
+use Rattle.checker.proofs.Refinement.{cond-case}
 use Rattle.excluded.proofs.Examiners.{step-moves}
 
 -- an examined word passes as the step has it, and never says end
@@ -34,7 +34,7 @@ word-ends (refused n) e = refused-value e
 end-passed : (s : Checker) → atEnd s ≡ value passed → ⊥
 end-passed s e =
     let g = given-value (timingOf (s .config)) _ e in
-    let q = require-value (clockFits (s .clock) (s .first) (s .stamps)) _ _ (g .2) .1 in
+    let q = require-value (clockFits (s .clock) (s .met) (s .stamps)) _ _ (g .2) .1 in
     let z : _≡_ {A = ℕ} 0 1 = cc q in
     omega arith
 

@@ -5,8 +5,9 @@ use mathlib.Core.Path.{_≡_}
 use mathlib.Core.Bool.{true, false}
 use mathlib.Core.List.{List, [], _∷_, _++_}
 use lib.ListN.{length, getD, replicate}
+use Rattle.command.specs.Pairs.{desl}
 use Rattle.basics.specs.Outcome.{value}
-use Rattle.basics.specs.Numbers.{refusalNumber}
+use Rattle.basics.specs.Numbers.{refusalNumber, limit}
 use Rattle.config.specs.Answers.{timingOutcome}
 use Rattle.config.specs.Configuration.{institute, derived, timingOf}
 use Rattle.config.specs.declared.Config.{Config}
@@ -23,10 +24,10 @@ use Rattle.rules.specs.Rules.{breachAt}
 use Rattle.rules.specs.Verdict.{Judgement, accepted, lead, judge, checkOf, checkBytesOf}
 use Rattle.model.specs.Traces.{At, words, startUpPairs, readAt, bank0Read}
 use Rattle.consistency.specs.Consistency.{clockFits}
-use Rattle.protocol.specs.Steps.{verdictOutcome, stepped, fresh, stepOf}
-use Rattle.protocol.specs.declared.checker.Breach.{Breach}
-use Rattle.protocol.specs.declared.checker.Checker.{Checker}
-use Rattle.protocol.specs.declared.checker.Verdict.{Verdict}
+use Rattle.checker.specs.Steps.{verdictOutcome, stepped, fresh, stepOf}
+use Rattle.checker.specs.declared.checker.Breach.{Breach}
+use Rattle.checker.specs.declared.checker.Checker.{Checker}
+use Rattle.checker.specs.declared.checker.Verdict.{Verdict}
 use Rattle.limits.specs.Answers.{findingOutcome}
 use Rattle.duration.specs.Answers.{durationOutcome}
 use Rattle.counts.specs.Counts.{countsOf, noCounts, countingOutcome, countingOf}
@@ -36,9 +37,11 @@ use Rattle.queue.specs.Queue.{vacant}
 use Rattle.controller.specs.Steps.{held, callOutcome, offered, ticked}
 use Rattle.controller.specs.declared.Controller.{Controller}
 use Rattle.controller.specs.declared.CallAnswer.{CallAnswer}
-use Rattle.model.specs.Runs.{Call, offer, tick, Accepted, Run, pairsOf, starts, latestStart}
+use Rattle.rules.specs.Turns.{pairsOf, starts}
+use Rattle.model.specs.Runs.{Call, offer, tick, Accepted, Run, latestStart}
 use Rattle.model.specs.Demand3.{putOut, taken, InOrder, Prompt}
-use Rattle.forms.specs.Excluded.{Never}
+use Rattle.excluded.specs.Calls.{Never, Calls}
+use Rattle.excluded.specs.Cursors.{Cursors}
 use Rattle.walks.specs.Walk.{progressOutcome, moved, MovePromised}
 use Rattle.walks.specs.declared.Progress.{Progress}
 
@@ -46,7 +49,11 @@ use Rattle.walks.specs.declared.Progress.{Progress}
 abbrev pub idleWords : ℕ → List ℕ
 idleWords desls = words 0 startUpPairs desls
 
--- a run that gives them, with a bank 0 read accepted before the first tick
+-- one offer of a bank 0 read before the first tick, and so many ticks
+abbrev pub idleCalls : ℕ → List Call
+idleCalls ticks = offer bank0Read ∷ replicate ticks tick
+
+-- a run that gives those words, with the read accepted before the first tick
 abbrev pub idleRun : ℕ → Controller → Run
 idleRun desls s = record { words = idleWords desls; accepted = record { request = bank0Read; ticks = 0; ahead = 0 } ∷ []; controller = s }
 
@@ -74,18 +81,22 @@ pub record Controllers : Type 0 where
   -- so the words are rejected from the next clock on: whatever the calls were and the controller holds.
   pub only-start-up : (desls : ℕ) (calls : List Call) (s : Controller) → 231 ≤ length (idleWords desls)
       → Prompt (derived institute) calls (idleRun desls s) → ⊥
-  -- so with any timing and any words that have no read or write pair
+  -- with the calls that make such a run no pair is open at its end, so the words are rejected as soon as the one at clock 229 is given:
+  -- with 230 words, and not with 229
+  pub at-the-bound : (s : Controller) → Prompt (derived institute) (idleCalls 230) (idleRun 196 s) → ⊥
+  pub not-before : (s : Controller) → Prompt (derived institute) (idleCalls 229) (idleRun 195 s)
+  -- one that puts nothing out, with any timing: its words have no read or write pair, and the bound is past
   pub nothing-out : (t : Timing) (calls : List Call) (r : Run) (a : Accepted) (newer : List Accepted) → r .accepted ≡ a ∷ newer
       → starts (pairsOf (r .words)) ≡ [] → latestStart t a + 1 < length (r .words) → Prompt t calls r → ⊥
   -- one that accepts sixteen requests and puts out the first in place of each, by the requests field for field
   pub faked-rest : (all : List Accepted) (s : Controller) → taken (fakedRun all s) ≡ readsFrom 0 16
       → InOrder (derived institute) (fakedRun all s) → ⊥
-  -- the words of that one break no rule
+  -- the words of the one that repeats the first break no rule
   pub faked-sound : judge (derived institute) fakedWords ≡ accepted
-  -- so with any timing, if the n-th pair is read to another request than the n-th that was accepted, in whatever field
+  -- one whose n-th pair is read to another request than the n-th that was accepted, in whatever field, with any timing
   pub another-request : (t : Timing) (r : Run) (n : ℕ) → n < length (putOut t r)
       → (getD (putOut t r) n vacant ≡ getD (taken r) n vacant → ⊥) → InOrder t r → ⊥
-  -- so if a request is lost
+  -- one that loses a request
   pub request-lost : (t : Timing) (r : Run) → length (putOut t r) + length (held (r .controller)) < length (taken r) → InOrder t r → ⊥
   -- an offer that refuses 27 with a place open, and one that refuses 26 to a request in range: of any state, and of either form of the
   -- call
@@ -93,22 +104,22 @@ pub record Controllers : Type 0 where
   pub offer-26 : (s after : Controller) (q : Request) (t : Timing) → timingOf (s .config) ≡ value t → requestFits t q ≡ true
       → Never s (offer q) (CallAnswer.Refused Field) 0 after
   -- a tick that refuses 24 before its clock
-  pub tick-24 : (s after : Controller) (word : ℕ) → s .clock < 16777216 → Never s tick (CallAnswer.Refused ClockLimit) word after
-  -- and the other way round: none is accepted where its refusal is due
+  pub tick-24 : (s after : Controller) (word : ℕ) → s .clock < limit → Never s tick (CallAnswer.Refused ClockLimit) word after
+  -- an offer or a tick that is accepted where its refusal is due
   pub offer-past-27 : (s after : Controller) (q : Request) → 16 ≤ s .count → Never s (offer q) CallAnswer.Accepted 0 after
   pub offer-past-26 : (s after : Controller) (q : Request) (t : Timing) → timingOf (s .config) ≡ value t → requestFits t q ≡ false
       → Never s (offer q) CallAnswer.Accepted 0 after
-  pub tick-past-24 : (s after : Controller) (word : ℕ) → 16777216 ≤ s .clock → Never s tick CallAnswer.Accepted word after
+  pub tick-past-24 : (s after : Controller) (word : ℕ) → limit ≤ s .clock → Never s tick CallAnswer.Accepted word after
 
 -- no contract lets the check of words answer so
 abbrev pub NoCheck : Config → List ℕ → Verdict → Type 0
 NoCheck c ws v = verdictOutcome v ≡ checkOf c ws → ⊥
 
--- nor the check of bytes
+-- no contract lets the check of bytes answer so
 abbrev pub NoCheckBytes : Config → List ℕ → Verdict → Type 0
 NoCheckBytes c bytes v = verdictOutcome v ≡ checkBytesOf c bytes → ⊥
 
--- nor a step that leaves the state `after`
+-- no contract lets a step answer so and leave the state `after`
 abbrev pub NoStep : Checker → ℕ → Verdict → Checker → Type 0
 NoStep s w v after = stepped (record { verdict = v; checker = after }) ≡ stepOf s w → ⊥
 
@@ -121,7 +132,7 @@ byFirstState t (w ∷ ws) = lead (breachAt t nothing w) 0 (byFirstState t ws)
 abbrev pub wrongMode : List ℕ
 wrongMode = 0xA0000 ∷ 0x80080 ∷ []
 
--- the same as bytes
+-- RDA and that MRS as bytes
 abbrev pub wrongModeBytes : List ℕ
 wrongModeBytes = 0x00 ∷ 0x00 ∷ 0x0A ∷ 0x00 ∷ 0x80 ∷ 0x00 ∷ 0x08 ∷ 0x00 ∷ []
 
@@ -133,10 +144,10 @@ pub record Examiners : Type 0 where
   pub bytes-accept : (c : Config) (bytes : List ℕ) → NoCheckBytes c (0 ∷ 0 ∷ 0 ∷ 0 ∷ bytes) Verdict.Accepted
   pub step-accepts : (s after : Checker) → NoStep s 0x100000 Verdict.Accepted after
   -- one that finds a breach in everything: DESL alone, none or any number of them, is in no breach
-  pub check-breaches : (c : Config) (n : ℕ) (b : Breach) → NoCheck c (replicate n 0xC0000) (Verdict.InBreach b)
-  pub bytes-breach : (c : Config) (bytes : List ℕ) (n : ℕ) (b : Breach) → wordsOf bytes ≡ replicate n 0xC0000
+  pub check-breaches : (c : Config) (n : ℕ) (b : Breach) → NoCheck c (replicate n desl) (Verdict.InBreach b)
+  pub bytes-breach : (c : Config) (bytes : List ℕ) (n : ℕ) (b : Breach) → wordsOf bytes ≡ replicate n desl
       → NoCheckBytes c bytes (Verdict.InBreach b)
-  pub step-breaches : (c : Config) (b : Breach) (after : Checker) → NoStep (fresh c) 0xC0000 (Verdict.InBreach b) after
+  pub step-breaches : (c : Config) (b : Breach) (after : Checker) → NoStep (fresh c) desl (Verdict.InBreach b) after
   -- one that does not leave its first state: at a word that passes the clock goes one on, and a breach changes the state too
   pub step-stays : (s after : Checker) (w : ℕ) → (after .clock ≡ s .clock + 1 → ⊥) → NoStep s w Verdict.Accepted after
   pub step-stays-in-breach : (s : Checker) (w : ℕ) (b : Breach) → NoStep s w (Verdict.InBreach b) s
@@ -156,7 +167,7 @@ pub record Tallies : Type 0 where
   -- of a refused tally, whichever is not 0
   pub invented-refused : (ws : List ℕ) (why : Refusal) (c : CommandCounts) (count : CommandCounts → ℕ) → (count c ≡ count noCounts → ⊥)
       → NoTally ws (CountsAnswer.Refused why c)
-  -- so one that counts nothing, where a read pair stands
+  -- one that counts nothing, where a read pair stands
   pub read-not-counted : NoTally (0xA0000 ∷ 0xC0000 ∷ []) (CountsAnswer.Counted noCounts)
   -- one that lets a word with PD low open a pair: two words 0 are no refresh
   pub low-word-opens : (c : CommandCounts) → c .refreshes ≡ 1 → NoTally (0 ∷ 0 ∷ []) (CountsAnswer.Counted c)
@@ -172,7 +183,7 @@ pub record Walks : Type 0 where
   pub end-early : (s after : Checker) (ws : List ℕ) → s .clock < length ws → NoMove s ws Progress.End after
   -- one that says anything else where none is left, and the sheet and the state are not refused
   pub end-unsaid : (s after : Checker) (ws : List ℕ) (t : Timing) (p : Progress) → length ws ≤ s .clock → timingOf (s .config) ≡ value t
-      → clockFits (s .clock) (s .first) (s .stamps) ≡ true → (p ≡ Progress.End → ⊥) → NoMove s ws p after
+      → clockFits (s .clock) (s .met) (s .stamps) ≡ true → (p ≡ Progress.End → ⊥) → NoMove s ws p after
   -- one that says that its word passed, and does not stand one on afterwards
   pub passed-place : (s after : Checker) (ws : List ℕ) → (after .clock ≡ s .clock + 1 → ⊥) → NoMove s ws Progress.Passed after
   -- one that says anything else, and does not stand where it was
@@ -215,3 +226,6 @@ pub record Excluded : Type 0 where
   pub tallies : Tallies
   pub walks : Walks
   pub answers : Answers
+  -- beside those that the paper names: of the calls that are proved by hand, whose proofs fit no other code
+  pub calls : Calls
+  pub cursors : Cursors

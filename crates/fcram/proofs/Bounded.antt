@@ -1,4 +1,4 @@
--- A verdict's clock is below the limit, and its number is one of thirteen. Assumes nothing.
+-- A verdict's clock is below the limit, and its number is one of thirteen.
 use Prim.Native.Nat.{ℕ, zero, suc, _+_, _≤_, _/_, _%_}
 use mathlib.Core.Path.{_≡_, refl}
 use mathlib.Core.Bool.{Bool, true, false}

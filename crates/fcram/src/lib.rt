@@ -1,11 +1,11 @@
 // The exam site's calls, for programs in C: include/fcram.h declares them.
 pub mod wired;
 
+use checker::Verdict;
 use config::Config;
-use protocol::Verdict;
 ghost use mathlib.Core.Path.{_≡_};
 ghost use Rattle.rules.specs.Verdict.{checkBytesOf};
-ghost use Rattle.protocol.specs.Steps.{verdictOutcome};
+ghost use Rattle.checker.specs.Steps.{verdictOutcome};
 ghost use Rattle.config.specs.Configuration.{configOf};
 ghost use Rattle.fcram.specs.Number.{numberOf};
 ghost use Rattle.fcram.specs.Range.{Small};

@@ -22,7 +22,8 @@ pub extern "C" fn fcram_check_wired(
     wiring: u32,
     trace: &[u8],
 ) -> u32
-    ensures { λ r. ⌜ r ≡ numberOf (checkBytesOf (wiredOf grade cl bl organisation period rbd rwd wrd rsc refc wiring) (now (trace .entry))) ⌝ }
+    ensures { λ r. ⌜ r ≡ numberOf
+        (checkBytesOf (wiredOf grade cl bl organisation period rbd rwd wrd rsc refc wiring) (now (trace .entry))) ⌝ }
 {
     let config = Config::wired(
         grade,

@@ -1,2 +1,2 @@
--- The former rule 3, kept for one statement: what passed by it still passes.
+-- The rules of before, kept for the statement of what has become of verdicts by them.
 pub mod Former

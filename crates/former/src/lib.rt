@@ -1,1 +1,1 @@
-// The theorem that a trace which passed by the former rule 3 still passes; there is no code.
+// The theorem that a trace which passed by the former rules still passes, and which breaches stay; there is no code.

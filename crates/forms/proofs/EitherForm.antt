@@ -1,4 +1,4 @@
--- Demand 3 holds of calls in either form: both promise the same. Assumes nothing.
+-- Demand 3 holds of calls in either form: both promise the same.
 use Prim.Native.Nat.{ℕ}
 use mathlib.Core.Path.{_≡_, refl, ap, sym, _∙_, subst}
 use mathlib.Core.List.{List, [], _∷_, _++_, map}
@@ -14,17 +14,20 @@ use Rattle.model.proofs.Demand3.{demand-3}
 use Rattle.forms.specs.EitherForm.{Form, byValue, borrowed, Made, Promised, MadeFrom, collected, collectFrom, EitherForm}
 
 offers : (r : Run) (q : Request) (answer : CallAnswer) (word : ℕ) (after : Controller)
-    → record { outcome = callOutcome answer; after = after } ≡ offerOf (r .controller) q → collected (offer q) answer word after r ≡ called r (offer q)
+    → record { outcome = callOutcome answer; after = after } ≡ offerOf (r .controller) q
+    → collected (offer q) answer word after r ≡ called r (offer q)
 offers r q answer word after e =
     let a : Accepted = record { request = q; ticks = length (r .words); ahead = length (held (r .controller)) } in
     ap (λ o. record { words = r .words; accepted = r .accepted ++ ifAccepted (o .outcome) a; controller = o .after }) e
 
 ticks : (r : Run) (answer : CallAnswer) (word : ℕ) (after : Controller)
-    → record { outcome = callOutcome answer; word = word; after = after } ≡ tickOf (r .controller) → collected tick answer word after r ≡ called r tick
+    → record { outcome = callOutcome answer; word = word; after = after } ≡ tickOf (r .controller)
+    → collected tick answer word after r ≡ called r tick
 ticks r answer word after e =
     ap (λ k. record { words = r .words ++ ifAccepted (k .outcome) (k .word); accepted = r .accepted; controller = k .after }) e
 
-one : (form : Form) (call : Call) (answer : CallAnswer) (word : ℕ) (after : Controller) (r : Run) → Promised form (r .controller) call answer word after
+one : (form : Form) (call : Call) (answer : CallAnswer) (word : ℕ) (after : Controller) (r : Run)
+    → Promised form (r .controller) call answer word after
     → collected call answer word after r ≡ called r call
 one byValue (offer q) answer word after r e = offers r q answer word after e
 one byValue tick answer word after r e = ticks r answer word after e
@@ -45,8 +48,10 @@ collected-from r s (m ∷ ms) e p =
 pub either-form : EitherForm
 either-form =
     record {
+      some = (refl, (refl, (refl, tt)));
       holds =
           λ c t is ms p.
           let begun : Run = record { words = []; accepted = []; controller = fresh c } in
-          subst (Holds t (map (λ m. m .call) ms)) (sym (collected-from begun begun ms refl p)) (demand-3 .holds c t is (map (λ m. m .call) ms));
+          subst (Holds t (map (λ m. m .call) ms)) (sym (collected-from begun begun ms refl p))
+          (demand-3 .holds c t is (map (λ m. m .call) ms));
     }

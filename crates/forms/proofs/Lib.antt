@@ -1,3 +1,2 @@
--- EitherForm: demand 3 for calls of either form. Excluded: what wrong programs would give.
+-- Demand 3 for calls of either form.
 pub mod EitherForm
-pub mod Excluded

@@ -4,13 +4,14 @@ use mathlib.Core.Path.{_≡_}
 use mathlib.Core.List.{List, [], _∷_, _++_, map}
 use lib.ListN.{length}
 use Rattle.basics.specs.Outcome.{value}
-use Rattle.config.specs.Configuration.{timingOf}
+use Rattle.config.specs.Configuration.{timingOf, institute}
 use Rattle.config.specs.declared.Config.{Config}
 use Rattle.config.specs.declared.Timing.{Timing}
 use Rattle.controller.specs.States.{fresh}
 use Rattle.controller.specs.Steps.{held, callOutcome, offered, ticked, offerOf, tickOf}
 use Rattle.model.specs.Runs.{Call, offer, tick, Accepted, Run, ifAccepted}
 use Rattle.model.specs.Demand3.{Holds}
+use Rattle.model.specs.Traces.{bank0Read}
 use Rattle.controller.specs.declared.Controller.{Controller}
 use Rattle.controller.specs.declared.CallAnswer.{CallAnswer}
 use Rattle.borrowed.specs.Promised.{OfferPromised, TickPromised}
@@ -57,6 +58,21 @@ collectFrom r (m ∷ ms) = collectFrom (collected (m .call) (m .answer) (m .word
 abbrev pub collect : Config → List Made → Run
 collect c ms = collectFrom (record { words = []; accepted = []; controller = fresh c }) ms
 
+-- on sheet E an offer on a borrowed controller, and two ticks on what it leaves, by value and again on a borrowed one: both words of the
+-- extended mode are given
+abbrev pub mixed : List Made
+mixed =
+    let offered = offerOf (fresh institute) bank0Read .after in
+    let ticked = tickOf offered .after in
+    record { form = borrowed; call = offer bank0Read; answer = CallAnswer.Accepted; word = 0; after = offered }
+    ∷ record { form = byValue; call = tick; answer = CallAnswer.Accepted; word = 0xA0000; after = ticked }
+    ∷ record { form = borrowed; call = tick; answer = CallAnswer.Accepted; word = 0x84000; after = tickOf ticked .after }
+    ∷ []
+
 -- the theorem: demand 3 holds of such lists too
 pub record EitherForm : Type 0 where
-  pub holds : (c : Config) (t : Timing) → timingOf c ≡ value t → (ms : List Made) → MadeFrom (fresh c) ms → Holds t (map (λ m. m .call) ms) (collect c ms)
+  -- there are such lists, in which both forms stand
+  pub some : MadeFrom (fresh institute) mixed
+  -- for every accepted sheet and every list
+  pub holds : (c : Config) (t : Timing) → timingOf c ≡ value t → (ms : List Made) → MadeFrom (fresh c) ms
+      → Holds t (map (λ m. m .call) ms) (collect c ms)

@@ -1,13 +1,10 @@
 -- A struct in a local that is lent by `&mut` for a call. Its type may name a lifetime κ: the call's lifetime is `ν ∷ κ`, with a ν that is
--- made for it, so that κ outlives it. A plain type names none, and κ is the empty list.
---     unbounded         the token of the empty list is had for nothing
---     Lent ν γ          what the lender keeps: the way back to ν's whole token, and the lender's part
---     lent              what h owns, [κ]_q and the local's cell, which is entry n behind them, give the `&(ν ∷ κ) mut` ((b, 0), γ, h), [ν ∷ κ]_left
---                       and [κ]_right, the halves of q; Lent ν γ stands at the cell's place meanwhile
---     returned          a call of a function with one `&mut` has returned: its tokens, the last value, the fact of the callee's `ensures`,
---                       and the relation of the result
---     regained          [ν ∷ κ]_left, [κ]_right, the last value z and Lent ν γ at entry n give what z owns, [κ]_q, and the cell at its place
--- Assumes `Given`.
+-- made for it, so that κ outlives it. A plain type names none, and κ is the empty list. unbounded the token of the empty list is had for
+-- nothing Lent ν γ what the lender keeps: the way back to ν's whole token, and the lender's part lent what h owns, [κ]_q and the local's
+-- cell, which is entry n behind them, give the `&(ν ∷ κ) mut` ((b, 0), γ, h), [ν ∷ κ]_left and [κ]_right, the halves of q; Lent ν γ stands
+-- at the cell's place meanwhile returned a call of a function with one `&mut` has returned: its tokens, the last value, the fact of the
+-- callee's `ensures`, and the relation of the result regained [ν ∷ κ]_left, [κ]_right, the last value z and Lent ν γ at entry n give what z
+-- owns, [κ]_q, and the cell at its place Assumes `Given`.
 use Prim.Native.Nat.{ℕ, suc}
 use mathlib.Core.Path.{_≡_, refl}
 use mathlib.Core.List.{List, [], _∷_}
@@ -21,7 +18,32 @@ use prog.Wp.{Heap}
 use ghost.Atoms.{Atoms, sem}
 use contract.BorrowLft.{meet-⊑-left}
 use contract.Monad.{fact}
-use types.Kit.{Given, Item, ‵, raw, _⊛_, some, later, mean, nth, del, put, pop, fill, Goal, Soaks, Seq, Step, step, _$_, move, drop, use1, use2, use3}
+use types.Kit.{
+  Given,
+  Item,
+  ‵,
+  raw,
+  _⊛_,
+  some,
+  later,
+  mean,
+  nth,
+  del,
+  put,
+  pop,
+  fill,
+  Goal,
+  Soaks,
+  Seq,
+  Step,
+  step,
+  _$_,
+  move,
+  drop,
+  use1,
+  use2,
+  use3,
+}
 use types.Kit.{split, join, pick, rewrite, fsplit, fjoin, fpick, fpack, await}
 use types.SemTy.{Body}
 use types.Tokens.{lft-new, lft-end}
@@ -84,11 +106,14 @@ module _ {M : Type 1} {𝓤 : URA M} {H : Heap 𝓤} {A : Atoms 𝓤} {K : Type 
     lent h w e k =
         move t (suc (suc n) ∷ []) $ rewrite t 0 (λ (i : Item 𝓤). i) e refl $
         use1 W (‵ (cellAt fullShare (row T .mir) (w ∷ []) b 0)) (W .laws .at-raw fullShare (lone (row T .mir)) b 0 w) $ fjoin t $
-        fpack t (List Val) (λ vs. fsep (cellAt fullShare (row T .mir) vs b 0) (row T .own h vs)) (w ∷ []) $ lft-new t z (λ ν. move t (1 ∷ []) $
-        use1 W (later (some (λ (γ : GName). ‵ (Ref T κ b ν γ h) ⊛ ‵ (Part T κ b ν γ)))) (lends-ref 𝓤 H A W (row T) (named 0) (ν ∷ κ) h b 0) $
+        fpack t (List Val) (λ vs. fsep (cellAt fullShare (row T .mir) vs b 0) (row T .own h vs)) (w ∷ []) $ lft-new t z
+        (λ ν. move t (1 ∷ []) $
+        use1 W (later (some (λ (γ : GName). ‵ (Ref T κ b ν γ h) ⊛ ‵ (Part T κ b ν γ))))
+        (lends-ref 𝓤 H A W (row T) (named 0) (ν ∷ κ) h b 0) $
         await t z $ pick t (λ γ. split t $
         -- [the reference; the lender's part; ν's token; κ's]
-        move t (2 ∷ []) $ use1 W (‵ (flft (ν ∷ []) (PosShare·left q)) ⊛ raw (Way A q ν)) (W .lfts .lft-carve ν (PosShare·left q)) $ split t $
+        move t (2 ∷ []) $ use1 W (‵ (flft (ν ∷ []) (PosShare·left q)) ⊛ raw (Way A q ν))
+        (W .lfts .lft-carve ν (PosShare·left q)) $ split t $
         move t (4 ∷ []) $ use1 W (‵ (flft κ (PosShare·left q)) ⊛ ‵ (flft κ (PosShare·right q))) (W .lfts .lft-split κ q) $ split t $
         -- [κ's left; κ's right; ν's left; the way back; the reference; the lender's part]
         move t (2 ∷ 0 ∷ []) $ use2 W (‵ (flft (ν ∷ κ) (PosShare·left q))) (W .lfts .lft-meet (ν ∷ []) κ (PosShare·left q)) $
@@ -101,7 +126,8 @@ module _ {M : Type 1} {𝓤 : URA M} {H : Heap 𝓤} {A : Atoms 𝓤} {K : Type 
         → Seq K W (‵ (flft (ν ∷ κ) (PosShare·left q)) ∷ ‵ (flft κ (PosShare·right q)) ∷ ‵ (fres γ (row T .coded .code x)) ∷ Γ) G
     unfolding partOf
     regained L ν γ x e k =
-        use1 W (‵ (flft (ν ∷ []) (PosShare·left q)) ⊛ ‵ (flft κ (PosShare·left q))) (W .lfts .lft-unmeet (ν ∷ []) κ (PosShare·left q)) $ split t $
+        use1 W (‵ (flft (ν ∷ []) (PosShare·left q)) ⊛ ‵ (flft κ (PosShare·left q)))
+        (W .lfts .lft-unmeet (ν ∷ []) κ (PosShare·left q)) $ split t $
         move t (1 ∷ 2 ∷ []) $ use2 W (‵ (flft κ q)) (W .lfts .lft-join κ q) $
         -- [κ's token; ν's left; the last value; what was kept]
         move t (suc (suc (suc n)) ∷ []) $ rewrite t 0 (λ (i : Item 𝓤). i) e refl $ split t $ move t (3 ∷ 0 ∷ []) $

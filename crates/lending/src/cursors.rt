@@ -1,7 +1,7 @@
 // An advance of a lent cursor, for callers that hold none: a cursor is made and lent for the call.
+use checker::Checker;
 use cursor::advance;
 use cursor::new;
-use protocol::Checker;
 use walks::Moved;
 ghost use Rattle.walks.specs.Walk.{MovePromised};
 

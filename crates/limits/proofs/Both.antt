@@ -1,4 +1,4 @@
--- The call on limits that it takes is the check on the one sheet, and where that is accepted, on the other. Assumes nothing.
+-- The call on limits that it takes is the check on the one sheet, and where that is accepted, on the other.
 use Prim.Native.Nat.{ℕ}
 use mathlib.Core.Path.{_≡_, refl}
 use mathlib.Core.Bool.{Bool, true, false, _&&_}
@@ -23,7 +23,8 @@ orNext (refused n) rest = refused n
 
 by-length : (b : Bool) (c d : Config) (i j : Judgement)
     → require b 24 (value (shown c i (shown d j always)))
-    ≡ orNext (given (require b 24 (value i)) (λ i. value (shown c i always))) (given (require b 24 (value j)) (λ j. value (shown d j always)))
+    ≡ orNext (given (require b 24 (value i)) (λ i. value (shown c i always)))
+    (given (require b 24 (value j)) (λ j. value (shown d j always)))
 by-length true c d accepted j = refl
 by-length true c d (breach clock n) j = refl
 by-length false c d i j = refl

@@ -1,5 +1,5 @@
 -- Of two sheets that are limits each is in them. A sheet in the limits is accepted: grade, CL, BL, organisation and wiring are those of
--- both, and each other number lies between two that keep its bounds. Assumes nothing.
+-- both, and each other number lies between two that keep its bounds.
 use Prim.Native.Nat.{ℕ, _≤_}
 use mathlib.Core.Path.{_≡_, refl}
 use mathlib.Core.Bool.{Bool, true, false, not, _&&_}

@@ -1,4 +1,4 @@
--- The two tests of 35 as the orders that they stand for, and back. Assumes nothing.
+-- The two tests of 35 as the orders that they stand for, and back.
 use mathlib.Core.Path.{_≡_}
 use mathlib.Core.Bool.{true, _&&_}
 use borrow.Author.Tests.{leb-true, eqb-true, le-leb, eq-eqb}

@@ -1,18 +1,18 @@
--- The theorem of specs/Within. To no rule but the twelfth is a sheet in the limits stricter than the greatest. That one asks for W, which is
--- larger for a shorter period, and so it is no stricter than the least. So what both accept is accepted between them; and a breach that is
--- shown is the verdict on one of the two, which are in the limits. Assumes nothing.
+-- The theorem of specs/Within. To no rule but the twelfth is a sheet in the limits stricter than the greatest. That one asks for W, which
+-- is larger for a shorter period, and so it is no stricter than the least. So what both accept is accepted between them; and a breach that
+-- is shown is the verdict on one of the two, which are in the limits. No sheet is refused by 35 or 24, so behind these both are accepted.
 use Prim.Native.Nat.{ℕ, _/_, _≤_, _<_}
 use mathlib.Core.Path.{_≡_, refl, sym, _∙_, ap, subst}
-use mathlib.Core.Bool.{Bool, true, false, _&&_}
+use mathlib.Core.Bool.{Bool, true, false, _&&_, false≢true}
 use mathlib.Core.List.{List}
 use native.Mathlib.Omega.{arith}
 use native.Mathlib.Nat.{mul-le-mul-left}
-use borrow.Author.Tests.{leb-true, le-leb, lt-leb}
+use borrow.Author.Tests.{leb-true, leb-false, le-leb, lt-leb}
 use lib.Ieee.Nearest.{div-mono}
 use lib.ListN.{length}
 use lib.Dec.{leb}
-use Rattle.basics.specs.Outcome.{value, refused}
-use Rattle.basics.proofs.Outcomes.{require-value}
+use Rattle.basics.specs.Outcome.{value, refused, require}
+use Rattle.basics.proofs.Outcomes.{require-value, Not, value-not, require-not, require-behind, require-fails}
 use Rattle.config.specs.Configuration.{derived, timingOf}
 use Rattle.config.specs.declared.Config.{Config}
 use Rattle.config.proofs.Accepted as config
@@ -66,6 +66,29 @@ module _ (a b : Config) (words : List ℕ) where
     too-long : (alike a b && nowhereAbove a b) ≡ true → 16777216 < length words → withinOf a b words ≡ refused 24
     too-long h l = rw (p, q, h, lt-leb (length words) 16777216 l)
 
+  -- behind either lie two accepted sheets, since no sheet is refused by it
+  behind-both : {n : ℕ} → ((c : Config) → Not n (timingOf c)) → withinOf a b words ≡ refused n
+      → (timingOf a ≡ value (derived a)) × (timingOf b ≡ value (derived b))
+      × (require (alike a b && nowhereAbove a b) 35 (require (leb (length words) 16777216) 24 (value found)) ≡ refused n)
+  behind-both h e =
+      let g = config.behind-refusal a _ (h a) e in
+      let k = config.behind-refusal b _ (h b) (g .1) in
+      (g .0, k .0, k .1)
+
+  only-no-limits : withinOf a b words ≡ refused 35 → (timingOf a ≡ value (derived a)) × (timingOf b ≡ value (derived b)) × (Ordered a b → ⊥)
+  only-no-limits e =
+      let k = behind-both (λ c. config.config-above c 35 (omega arith)) e in
+      let later : Not 35 _ = require-not (leb (length words) 16777216) 24 35 _ (λ q. omega arith) (value-not 35 found) in
+      (k .0, k .1, λ o. false≢true (sym (require-fails (alike a b && nowhereAbove a b) _ later (k .2)) ∙ fits a b o))
+
+  only-long : withinOf a b words ≡ refused 24
+      → (timingOf a ≡ value (derived a)) × (timingOf b ≡ value (derived b)) × Ordered a b × (16777216 < length words)
+  only-long e =
+      let k = behind-both (λ c. config.config-between c 24 (omega arith) (omega arith)) e in
+      let l = require-behind (alike a b && nowhereAbove a b) _ (λ q. omega arith) (k .2) in
+      let more = require-fails (leb (length words) 16777216) _ (value-not 24 _) (l .1) in
+      (k .0, k .1, ordered a b (l .0), leb-false (length words) 16777216 more)
+
   -- yes says that both verdicts are accepted; what is shown is in the limits, and its breach is the verdict on it
   abbrev Sound : Finding → Type 0
   Sound always = (judge (derived a) words ≡ accepted) × (judge (derived b) words ≡ accepted)
@@ -111,5 +134,7 @@ within =
       in-limits = λ a b c words k n e. behind a b words (breachOn c k n) e .1 .0;
       verdict = λ a b c words k n e. behind a b words (breachOn c k n) e .1 .1;
       no-limits = λ a b words p q h. unfit a b words p q (λ e. h (ordered a b e));
+      only-no-limits = only-no-limits;
       long = λ a b words p q o l. too-long a b words p q (fits a b o) l;
+      only-long = only-long;
     }

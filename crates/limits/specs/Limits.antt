@@ -4,6 +4,7 @@ use mathlib.Core.Bool.{Bool, _&&_}
 use mathlib.Core.List.{List}
 use lib.ListN.{length}
 use lib.Dec.{eqb, leb}
+use Rattle.basics.specs.Numbers.{limit}
 use Rattle.basics.specs.Outcome.{Outcome, value, require, given}
 use Rattle.config.specs.Configuration.{timingOf}
 use Rattle.config.specs.declared.Config.{Config}
@@ -45,4 +46,4 @@ withinOf a b words =
     given (timingOf a)
     (λ s. given (timingOf b)
     (λ t. require (alike a b && nowhereAbove a b) 35
-    (require (leb (length words) 16777216) 24 (value (shown a (judge s words) (shown b (judge t words) always))))))
+    (require (leb (length words) limit) 24 (value (shown a (judge s words) (shown b (judge t words) always))))))

@@ -1,9 +1,10 @@
--- What an answer of the call is worth (RULES 5.7): yes holds for every sheet in the limits, and where it does not hold one of them is shown.
--- The refusals of the two sheets themselves, and their order, are in Sheets of `sheets`.
+-- What an answer of the call is worth (RULES 5.7): yes holds for every sheet in the limits, and where it does not hold one of them is
+-- shown. The refusals of the two sheets themselves, and their order, are in Sheets of `sheets`.
 use Prim.Native.Nat.{ℕ, _≤_, _<_}
 use mathlib.Core.Path.{_≡_}
 use mathlib.Core.List.{List, []}
 use lib.ListN.{length}
+use Rattle.basics.specs.Numbers.{limit}
 use Rattle.basics.specs.Outcome.{value, refused}
 use Rattle.config.specs.Configuration.{derived, timingOf, wiredOf}
 use Rattle.config.specs.declared.Config.{Config}
@@ -38,7 +39,7 @@ pub record Taken (a b : Config) (words : List ℕ) : Type 0 where
   pub least : timingOf a ≡ value (derived a)
   pub greatest : timingOf b ≡ value (derived b)
   pub ordered : Ordered a b
-  pub short : length words ≤ 16777216
+  pub short : length words ≤ limit
 
 -- the theorem
 pub record Within : Type 0 where
@@ -47,7 +48,7 @@ pub record Within : Type 0 where
   -- every sheet in the limits of two accepted ones is accepted
   pub in-between : (a b c : Config) → timingOf a ≡ value (derived a) → timingOf b ≡ value (derived b) → InLimits a b c
       → timingOf c ≡ value (derived c)
-  -- so the whole check on it comes to the verdict by its figures
+  -- the whole check on a sheet in the limits comes to the verdict by its figures
   pub check : (a b c : Config) (words : List ℕ) → Taken a b words → InLimits a b c → checkOf c words ≡ value (judge (derived c) words)
   -- the two sheets decide for all between them: what both accept, each of those accepts
   pub both : (a b c : Config) (words : List ℕ) → timingOf a ≡ value (derived a) → InLimits a b c
@@ -62,8 +63,13 @@ pub record Within : Type 0 where
   pub in-limits : (a b c : Config) (words : List ℕ) (clock n : ℕ) → withinOf a b words ≡ value (breachOn c clock n) → InLimits a b c
   pub verdict : (a b c : Config) (words : List ℕ) (clock n : ℕ) → withinOf a b words ≡ value (breachOn c clock n)
       → judge (derived c) words ≡ breach clock n
-  -- accepted sheets that are no limits are refused by 35; and on limits a longer trace by 24 (RULES 6.35, 6.24)
+  -- 35 is for accepted sheets that are no limits, and for nothing else (RULES 6.35)
   pub no-limits : (a b : Config) (words : List ℕ) → timingOf a ≡ value (derived a) → timingOf b ≡ value (derived b)
       → (Ordered a b → ⊥) → withinOf a b words ≡ refused 35
+  pub only-no-limits : (a b : Config) (words : List ℕ) → withinOf a b words ≡ refused 35
+      → (timingOf a ≡ value (derived a)) × (timingOf b ≡ value (derived b)) × (Ordered a b → ⊥)
+  -- 24 is for more words on limits, and for nothing else (RULES 6.24)
   pub long : (a b : Config) (words : List ℕ) → timingOf a ≡ value (derived a) → timingOf b ≡ value (derived b) → Ordered a b
-      → 16777216 < length words → withinOf a b words ≡ refused 24
+      → limit < length words → withinOf a b words ≡ refused 24
+  pub only-long : (a b : Config) (words : List ℕ) → withinOf a b words ≡ refused 24
+      → (timingOf a ≡ value (derived a)) × (timingOf b ≡ value (derived b)) × Ordered a b × (limit < length words)

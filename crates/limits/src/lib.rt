@@ -1,9 +1,9 @@
 // Sheets known within limits: a trace on every sheet from a least one to a greatest.
 use basics::Refusal;
+use checker::Breach;
+use checker::Verdict;
 use config::Config;
 use config::TimingAnswer;
-use protocol::Breach;
-use protocol::Verdict;
 use wordcheck::check;
 ghost use mathlib.Core.Path.{_≡_};
 ghost use Rattle.basics.specs.Outcome.{value, given};

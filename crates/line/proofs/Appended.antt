@@ -1,4 +1,4 @@
--- Appending in two goes is appending at once; and what fits stands behind the text. Assumes nothing.
+-- Appending in two goes is appending at once; and what fits stands behind the text.
 use Prim.Native.Nat.{ℕ, _+_, _≤_}
 use mathlib.Core.Path.{_≡_, refl, sym}
 use mathlib.Core.List.{List, [], _∷_, _++_, append-nil}

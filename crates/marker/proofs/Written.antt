@@ -1,4 +1,4 @@
--- A line that grew from nothing piece by piece holds the pieces, where these are at most 40 bytes. Assumes nothing.
+-- A line that grew from nothing piece by piece holds the pieces, where these are at most 40 bytes.
 use Prim.Native.Nat.{ℕ, _+_, _≤_}
 use mathlib.Core.Path.{_≡_, refl}
 use mathlib.Core.List.{List, _++_}

@@ -1,14 +1,14 @@
 // The line that a trace is marked with.
 use basics::Refusal;
+use checker::Verdict;
 use config::Config;
 use line::Line;
-use protocol::Verdict;
 ghost use mathlib.Core.Path.{_≡_};
 ghost use Prim.Native.Nat.{_≤_};
 ghost use Rattle.line.specs.Text.{text};
 ghost use Rattle.basics.specs.Outcome.{value, refused};
 ghost use Rattle.rules.specs.Verdict.{accepted, breach};
-ghost use Rattle.protocol.specs.Steps.{verdictOutcome};
+ghost use Rattle.checker.specs.Steps.{verdictOutcome};
 ghost use Rattle.marker.specs.Mark.{lineBy, lineOf};
 
 fn accepted(count: u32) -> Line

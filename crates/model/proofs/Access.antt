@@ -1,5 +1,5 @@
--- A request opens as soon as S clocks have passed since the last read and the last write, and REFC since the last refresh, from clock 201 on
--- and before the next refresh is called for. Assumes nothing.
+-- A request opens as soon as S clocks have passed since the last read and the last write, and REFC since the last refresh, from clock 201
+-- on and before the next refresh is called for.
 use Prim.Native.Nat.{ℕ, _+_, _-_, _≤_}
 use mathlib.Core.Path.{_≡_}
 use mathlib.Core.Bool.{Bool, true, false, cond, _&&_, _||_}
@@ -62,11 +62,17 @@ module _ (t : Timing) (f : Figures t) (ps : List ClosedPair) (k : ℕ) (n : Norm
     pub write : latest wasWrite ps + t .spacing ≤ k + 1
     pub refresh : lastRef ps + t .refc ≤ k + 1
 
-  is-ready : 201 ≤ k → notReady (summary (t .four) ps .extended) (summary (t .four) ps .regular) (getD (summary (t .four) ps .refs) 1 0) (k + 1) ≡ false
+  is-ready : 201 ≤ k
+      → notReady (summary (t .four) ps .extended) (summary (t .four) ps .regular) (getD (summary (t .four) ps .refs) 1 0) (k + 1) ≡ false
   is-ready h =
       let g = n .ready .regular in
       let s = n .ready .second in
-      rw (n .ready .extended, ne-eqb (latest wasRegular ps) 0 (λ e. omega arith), ne-eqb (getD (closings wasRefresh ps) 1 0) 0 (λ e. omega arith), le-ltb (k + 1) (1 + 201) (omega arith))
+      rw (
+        n .ready .extended,
+        ne-eqb (latest wasRegular ps) 0 (λ e. omega arith),
+        ne-eqb (getD (closings wasRefresh ps) 1 0) 0 (λ e. omega arith),
+        le-ltb (k + 1) (1 + 201) (omega arith),
+      )
 
   module _ (r : Request) (fits : requestFits t r ≡ true) where
     abbrev first : ℕ
@@ -106,5 +112,11 @@ module _ (t : Timing) (f : Figures t) (ps : List ClosedPair) (k : ℕ) (n : Norm
         let a = access-free c in
         let w = sound-tests t first second (a .sound) in
         let before = ordered-mono k (k + 1 - 1) (omega arith) ps (n .ordered) in
-        rw
-        (breach-is t free k ps first (omega arith, n .ordered), sound-first t (summary (t .four) ps) k first second (in-time t f ps k n k (omega arith)) (a .sound), w .pd₁, w .cs, breach-is t (pair first) (k + 1) ps second (omega arith, before, rw (w .cs)), access-closes t (summary (t .four) ps) (k + 1) first second (in-time t f ps k n (k + 1) (le-refl (k + 1))) a)
+        rw (
+          breach-is t free k ps first (omega arith, n .ordered),
+          sound-first t (summary (t .four) ps) k first second (in-time t f ps k n k (omega arith)) (a .sound),
+          w .pd₁,
+          w .cs,
+          breach-is t (pair first) (k + 1) ps second (omega arith, before, rw (w .cs)),
+          access-closes t (summary (t .four) ps) (k + 1) first second (in-time t f ps k n (k + 1) (le-refl (k + 1))) a,
+        )

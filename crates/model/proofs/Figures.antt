@@ -1,4 +1,4 @@
--- What every accepted configuration has in its timing. Assumes nothing.
+-- What every accepted configuration has in its timing.
 use Prim.Native.Nat.{ℕ, _+_, _*_, _/_, _≤_}
 use mathlib.Core.Path.{_≡_}
 use mathlib.Core.Bool.{Bool, true, false, cond}
@@ -12,6 +12,7 @@ use Rattle.config.specs.declared.Timing.{Timing}
 use Rattle.config.proofs.Accepted.{Accepted}
 use Rattle.config.proofs.Bounds.{cl-bounds, bl-cases, count-bounds, period-bounds}
 
+-- the bounds of the figures of an accepted sheet that the proofs go by
 pub record Figures (t : Timing) : Type 0 where
   pub bl : (t .bl ≡ 2) ⊎ (t .bl ≡ 4)
   pub cl : (3 ≤ t .cl) × (t .cl ≤ 5)
@@ -38,6 +39,7 @@ quotients a b p h le = le-div-iff-mul-le {k = p} (omega arith) .1 (le-trans (div
 spacing-bound : (rc rbd rwd wrd : ℕ) → rc ≤ 6 → rbd ≤ 7 → rwd ≤ 7 → wrd ≤ 7 → spacingOf rc rbd rwd wrd ≤ 8
 spacing-bound rc rbd rwd wrd a b c d = omega arith
 
+-- an accepted sheet has them
 pub figures : (c : Config) → Accepted c → Figures (derived c)
 figures c a =
     let n = count-bounds c (a .counts) in
@@ -57,5 +59,7 @@ figures c a =
       any-bank = omega arith;
       read-write = omega arith;
       write-read = omega arith;
-      spacing = spacing-bound (rcOf (c .cl)) (c .rbd .0) (c .rwd .0) (c .wrd .0) (rc-bounds (eqb (c .cl) 5) .1) (n .rbd .1) (n .rwd .1) (n .wrd .1);
+      spacing =
+          spacing-bound (rcOf (c .cl)) (c .rbd .0) (c .rwd .0) (c .wrd .0) (rc-bounds (eqb (c .cl) 5) .1) (n .rbd .1) (n .rwd .1)
+          (n .wrd .1);
     }

@@ -1,13 +1,20 @@
--- First words against the bounds of the accepted requests, in order. Assumes nothing.
+-- First words against the bounds of the accepted requests, in order: those that have opened met theirs, and of the others none has passed.
+-- So a bound that has passed was met.
 use Prim.Native.Nat.{ℕ, _+_, _≤_, _<_}
 use mathlib.Core.Path.{_≡_, refl, sym, ap, subst}
+use mathlib.Core.Bool.{Bool, true, false, cond}
 use mathlib.Core.List.{List, [], _∷_, _++_, map, nil≢cons, head-eq-of-cons-eq, tail-eq-of-cons-eq}
 use native.Mathlib.Omega.{arith}
 use native.Mathlib.Nat.{le-trans}
 use lib.ListN.{length, getD}
 use Rattle.config.specs.declared.Timing.{Timing}
-use Rattle.model.proofs.Prompt.{Prompt}
-use Rattle.model.proofs.Punctual.{meets-by}
+use Rattle.command.specs.declared.operation.Request.{Request}
+use Rattle.rules.specs.History.{ClosedPair}
+use Rattle.model.proofs.Places.{only}
+use Rattle.model.proofs.InTime.{lastRef}
+use Rattle.model.proofs.Prompt.{Awaited, Prompt, due-by}
+use Rattle.model.proofs.Soonest.{soonest, soonest-pace}
+use Rattle.model.proofs.Punctual.{Queue}
 
 -- of the bounds all, the first ones are met by first words at us, and Bs are the others
 abbrev pub Met : List ℕ → List ℕ → List ℕ → Type 0
@@ -15,11 +22,13 @@ Met [] all Bs = all ≡ Bs
 Met (u ∷ us) [] Bs = ⊥
 Met (u ∷ us) (B ∷ all) Bs = (u + 1 ≤ B) × Met us all Bs
 
+-- one more first word, which meets the next bound
 pub one-met : (us all : List ℕ) (u B : ℕ) (Bs : List ℕ) → u + 1 ≤ B → Met us all (B ∷ Bs) → Met (us ++ (u ∷ [])) all Bs
 one-met [] all u B Bs h e = subst (λ all. Met (u ∷ []) all Bs) (sym e) (h, refl)
 one-met (v ∷ us) [] u B Bs h m = absurd m
 one-met (v ∷ us) (C ∷ all) u B Bs h m = (m .0, one-met us all u B Bs h (m .1))
 
+-- one more bound, of a request that was just accepted
 pub one-asked : (us all : List ℕ) (B : ℕ) (Bs : List ℕ) → Met us all Bs → Met us (all ++ (B ∷ [])) (Bs ++ (B ∷ []))
 one-asked [] all B Bs e = ap (λ all. all ++ (B ∷ [])) e
 one-asked (v ∷ us) [] B Bs m = absurd m
@@ -30,10 +39,30 @@ abbrev pub After : ℕ → List ℕ → Type 0
 After k [] = Unit {0}
 After k (B ∷ Bs) = (k ≤ B) × After k Bs
 
-pub prompt-after : (t : Timing) (r k F : ℕ) (Bs : List ℕ) → k ≤ F → Prompt t r F Bs → After k Bs
-prompt-after t r k F [] h p = tt
-prompt-after t r k F (B ∷ Bs) h p = (le-trans h (meets-by t r F B (p .0)), prompt-after t r k (F + t .spacing) Bs (omega arith) (p .1))
+-- the bounds of those of a kind
+abbrev pub boundsOf : (Request → Bool) → List Awaited → List ℕ
+boundsOf g xs = map (λ x. x .bound) (only (λ x. g (x .request)) xs)
 
+-- none of the requests that have not opened has its bound before the next clock
+pub queue-after : (t : Timing) (g : Request → Bool) (ps : List ClosedPair) (k : ℕ) (xs : List Awaited) → Queue t ps k xs
+    → After (k + 1) (boundsOf g xs)
+queue-after t g ps k xs q = go xs (q .punctual)
+  where
+    F : ℕ
+    F = soonest t ps k
+
+    go : (xs : List Awaited) → Prompt t (lastRef ps) F xs → After (k + 1) (boundsOf g xs)
+    go [] p = tt
+    go (x ∷ xs) p = by (g (x .request)) (go xs (p .1))
+      where
+        rest : List Awaited
+        rest = only (λ x. g (x .request)) xs
+
+        by : (b : Bool) → After (k + 1) (boundsOf g xs) → After (k + 1) (map (λ x. x .bound) (cond b (x ∷ rest) rest))
+        by true a = (le-trans (soonest-pace t ps k .now) (due-by t (lastRef ps) F x (p .0)), a)
+        by false a = a
+
+-- bounds that are not before k are not before an earlier clock
 pub after-mono : (j k : ℕ) (Bs : List ℕ) → j ≤ k → After k Bs → After j Bs
 after-mono j k [] h a = tt
 after-mono j k (B ∷ Bs) h a = (le-trans h (a .0), after-mono j k Bs h (a .1))

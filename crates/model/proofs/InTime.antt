@@ -1,5 +1,4 @@
--- After the start-up a refresh is never overdue: from r + D − RC on only a refresh opens, and what binds it runs out in time. Assumes
--- nothing.
+-- After the start-up a refresh is never overdue: from r + D − RC on only a refresh opens, and what binds it runs out in time.
 use Prim.Native.Nat.{ℕ, _+_, _≤_, _<_}
 use mathlib.Core.Path.{_≡_, sym, _∙_}
 use mathlib.Core.Bool.{Bool, true, false, cond, not}
@@ -51,7 +50,8 @@ pub record Normal (t : Timing) (ps : List ClosedPair) (k : ℕ) : Type 0 where
   pub timely : Timely t ps k
 
 -- a spacing counted from the pair that opened at k, or from an older one
-pub latest-moved : (ps : List ClosedPair) (k : ℕ) (p : ClosedPair) → p .start ≡ k → (g : ClosedPair → Bool) (n G : ℕ) → k + 1 + n ≤ G → latest g ps + n ≤ G
+pub latest-moved : (ps : List ClosedPair) (k : ℕ) (p : ClosedPair) → p .start ≡ k → (g : ClosedPair → Bool) (n G : ℕ) → k + 1 + n ≤ G
+    → latest g ps + n ≤ G
     → latest g (p ∷ ps) + n ≤ G
 latest-moved ps k p at g n G new old = rw (latest-cons g p ps) (by (g p))
   where
@@ -82,6 +82,7 @@ module _ (t : Timing) (f : Figures t) (ps : List ClosedPair) (k : ℕ) (n : Norm
       let l = next-in-time in
       gaps-cons (t .refi) j (closings wasRefresh ps) (omega arith) (n .gaps)
 
+  -- rule 3 is kept at this word and at the next
   pub in-time : (j : ℕ) → j ≤ k + 1 → InTime t (summary (t .four) ps) j
   in-time j h = by-gaps t ps j (next-gap j h)
 
@@ -100,7 +101,8 @@ module _ (t : Timing) (f : Figures t) (ps : List ClosedPair) (k : ℕ) (n : Norm
         refresh = inr (omega arith);
         read = inr read;
         write = inr write;
-        window = ⊎-elim (λ e. inl e) (λ h. inr (omega arith)) (eighth (closings wasRefresh ps) (closings-fall wasRefresh k ps (n .ordered)));
+        window =
+            ⊎-elim (λ e. inl e) (λ h. inr (omega arith)) (eighth (closings wasRefresh ps) (closings-fall wasRefresh k ps (n .ordered)));
       }
 
   -- a refresh may not open yet

@@ -1,4 +1,4 @@
--- The closing words of a history fall, so the eighth last REF word is at least seven clocks behind the last. Assumes nothing.
+-- The closing words of a history fall, so the eighth last REF word is at least seven clocks behind the last.
 use Prim.Native.Nat.{ℕ, _+_, _≤_, _<_}
 use mathlib.Core.Path.{_≡_, refl}
 use mathlib.Core.Bool.{Bool, true, false, cond}
@@ -21,6 +21,7 @@ falling-cons : (k : ℕ) (ks : List ℕ) → getD ks 0 0 < k → Falling ks → 
 falling-cons k [] h a = tt
 falling-cons k (j ∷ js) h a = (h, a)
 
+-- the closing words of an ordered history fall
 pub closings-fall : (f : ClosedPair → Bool) (b : ℕ) (ps : List ClosedPair) → Ordered b ps → Falling (closings f ps)
 closings-fall f b [] o = tt
 closings-fall f b (p ∷ ps) o = go (f p) (closings-fall f (p .start) ps (o .1))
@@ -31,6 +32,7 @@ closings-fall f b (p ∷ ps) o = go (f p) (closings-fall f (p .start) ps (o .1))
         falling-cons (p .start + 1) (closings f ps) (omega arith) a
     go false a = a
 
+-- of falling clocks the eighth is at least seven behind the first, if there is one
 pub eighth : (ks : List ℕ) → Falling ks → (getD ks 7 0 ≡ 0) ⊎ (getD ks 7 0 + 7 ≤ getD ks 0 0)
 eighth (a ∷ b ∷ c ∷ d ∷ e ∷ f ∷ g ∷ h ∷ ks) p =
     let p₁ = p .0 in

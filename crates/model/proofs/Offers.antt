@@ -1,4 +1,4 @@
--- A request that is accepted meets its bound from then on. Assumes nothing.
+-- A request that is accepted meets its bound from then on.
 use Prim.Native.Nat.{ℕ, _+_, _≤_}
 use mathlib.Core.Path.{_≡_, refl}
 use mathlib.Core.Bool.{Bool, true, false}
@@ -16,9 +16,9 @@ use Rattle.model.proofs.InTime.{lastRef}
 use Rattle.model.proofs.Prompt.{Meets}
 use Rattle.model.proofs.Soonest.{Pace, soonest, pace-soonest}
 
--- M is max(c, 201), and m is S for each request that has not opened
+-- M is max(c, 201), and m is S for each request that may open before
 module _ (t : Timing) (f : Figures t) (ps : List ClosedPair) (k M m : ℕ) (now : k ≤ M + 1) (ready : 201 ≤ M) (read : latest wasRead ps ≤ M)
-    (write : latest wasWrite ps ≤ M) (refresh : lastRef ps ≤ M) (few : m ≤ 120) where
+    (write : latest wasWrite ps ≤ M) (refresh : lastRef ps ≤ M) (few : m ≤ 184) where
   meets : (F : ℕ) → (Pace t ps k (M + t .spacing + t .rc + 1) → F ≤ M + t .spacing + t .rc + 1)
       → (Pace t ps k (lastRef ps + t .refc) → F ≤ lastRef ps + t .refc)
       → Meets t (lastRef ps) (F + m) (M + (m + t .spacing) + t .rc + t .refc + 1)
@@ -36,7 +36,8 @@ module _ (t : Timing) (f : Figures t) (ps : List ClosedPair) (k M m : ℕ) (now 
           let rc = f .rc in
           let refc = f .refc .1 in
           let refi = f .refi in
-          let h = put-off (record { now = omega arith; ready = omega arith; read = omega arith; write = omega arith; refresh = omega arith }) in
+          let h = put-off
+          (record { now = omega arith; ready = omega arith; read = omega arith; write = omega arith; refresh = omega arith }) in
           inl (omega arith, omega arith)
 
   -- the bound max(c, 201) + (q + 1) S + RC + REFC, one more for the closing word

@@ -1,34 +1,36 @@
--- After the start-up every tick keeps the bounds of the waiting requests, and a request opens within its own. Assumes nothing.
+-- After the start-up every tick keeps the bounds of the waiting requests, and a request opens within its own: F, the clock from which on
+-- nothing but a refresh keeps one from closing, moves on by S behind a read or write, by REFC behind a refresh, and else not at all.
 use Prim.Native.Nat.{ℕ, _+_, _≤_, _<_}
-use mathlib.Core.Path.{_≡_, refl, subst}
+use mathlib.Core.Path.{_≡_, refl, sym, subst}
 use mathlib.Core.Bool.{true, false}
-use mathlib.Core.List.{List, [], _∷_}
+use mathlib.Core.List.{List, [], _∷_, map, nil≢cons}
+use mathlib.Core.Option.{some}
 use mathlib.Core.Logic.{_⊎_, inl, inr}
 use native.Mathlib.Omega.{arith}
 use native.Mathlib.Nat.{le-trans, le-add-right}
 use Rattle.config.specs.declared.Timing.{Timing}
-use Rattle.command.specs.declared.operation.Request.{Request}
+use Rattle.queue.specs.Place.{without}
+use Rattle.model.specs.Laid.{entryAt}
 use Rattle.rules.specs.History.{ClosedPair}
 use Rattle.rules.specs.Rules.{wasRead, wasWrite, wasRefresh}
 use Rattle.model.proofs.Figures.{Figures}
+use Rattle.model.proofs.Candidates.{AllFit}
 use Rattle.model.proofs.InTime.{lastRef, latest-moved}
-use Rattle.model.proofs.Prompt.{Meets, Prompt, Close, sooner, put-off}
+use Rattle.model.proofs.Prompt.{Awaited, requests, lower, Prompt, Close, Spare, sooner, one-opened, entry-by, put-off}
 use Rattle.model.proofs.Soonest.{Pace, soonest, soonest-pace, pace-soonest}
 
--- a bound for each request
-abbrev pub Same : List Request → List ℕ → Type 0
-Same [] [] = Unit {0}
-Same [] (B ∷ Bs) = ⊥
-Same (r ∷ rs) [] = ⊥
-Same (r ∷ rs) (B ∷ Bs) = Same rs Bs
-
 -- the bounds hold at a clock k where no pair is open
-abbrev pub Punctual : Timing → List ClosedPair → ℕ → List ℕ → Type 0
-Punctual t ps k Bs = Prompt t (lastRef ps) (soonest t ps k) Bs
+abbrev pub Punctual : Timing → List ClosedPair → ℕ → List Awaited → Type 0
+Punctual t ps k xs = Prompt t (lastRef ps) (soonest t ps k) xs
 
-pub meets-by : (t : Timing) (r F B : ℕ) → Meets t r F B → F ≤ B
-meets-by t r F B (inl m) = m .0
-meets-by t r F B (inr m) = omega arith
+-- what holds of the requests that have not opened, at a clock k where no pair is open
+pub record Queue (t : Timing) (ps : List ClosedPair) (k : ℕ) (xs : List Awaited) : Type 0 where
+  -- each is in range
+  pub fit : AllFit t (requests xs)
+  -- no bound is far off
+  pub near : Close k xs
+  -- each meets its bound, with so many opening before it as its rank says
+  pub punctual : Punctual t ps k xs
 
 module _ (t : Timing) (f : Figures t) (ps : List ClosedPair) (k F : ℕ) (c : Pace t ps k F) where
   pace-idle : k + 1 < F → Pace t ps (k + 1) F
@@ -70,40 +72,37 @@ module _ (t : Timing) (f : Figures t) (ps : List ClosedPair) (k F : ℕ) (c : Pa
 
 module _ (t : Timing) (f : Figures t) (ps : List ClosedPair) (k : ℕ) where
   -- DESL where nothing waits, or where it is too soon
-  pub idle-punctual : (rs : List Request) (Bs : List ℕ) → Same rs Bs → (rs ≡ []) ⊎ (k + 1 < soonest t ps k) → Punctual t ps k Bs
-      → Punctual t ps (k + 1) Bs
-  idle-punctual rs Bs s (inl e) q = none-waits Bs (subst (λ rs. Same rs Bs) e s)
-    where
-      none-waits : (Bs : List ℕ) → Same [] Bs → Punctual t ps (k + 1) Bs
-      none-waits [] s = tt
-      none-waits (B ∷ Bs) s = absurd s
-  idle-punctual rs Bs s (inr h) q =
+  pub idle-punctual : (xs : List Awaited) → (requests xs ≡ []) ⊎ (k + 1 < soonest t ps k) → Punctual t ps k xs → Punctual t ps (k + 1) xs
+  idle-punctual [] (inl e) q = tt
+  idle-punctual (x ∷ xs) (inl e) q = absurd (nil≢cons (sym e))
+  idle-punctual xs (inr h) q =
       let F = soonest t ps k in
-      sooner t (lastRef ps) F (soonest t ps (k + 1)) Bs (pace-soonest t ps (k + 1) F (pace-idle t f ps k F (soonest-pace t ps k) h)) q
+      sooner t (lastRef ps) F (soonest t ps (k + 1)) xs (pace-soonest t ps (k + 1) F (pace-idle t f ps k F (soonest-pace t ps k) h)) q
 
   module _ (p : ClosedPair) (at : p .start ≡ k) where
-    -- the oldest request opens within its bound
-    pub access-punctual : (B : ℕ) (Bs : List ℕ) → wasRefresh p ≡ false → Punctual t ps k (B ∷ Bs)
-        → (k + 1 ≤ B) × Punctual t (p ∷ ps) (k + 2) Bs
-    access-punctual B Bs e q =
+    -- a request opens within its bound, and the others keep theirs
+    pub access-punctual : (i : ℕ) (xs : List Awaited) (x : Awaited) → entryAt i xs ≡ some x → Spare i xs → wasRefresh p ≡ false
+        → Punctual t ps k xs → (k + 1 ≤ x .bound) × Punctual t (p ∷ ps) (k + 2) (map lower (without i xs))
+    access-punctual i xs x is spare e q =
         let F = soonest t ps k in
         let G = soonest t (p ∷ ps) (k + 2) in
         let c = soonest-pace t ps k in
         let pace = pace-soonest t (p ∷ ps) (k + 2) (F + t .spacing) (pace-access t f ps k F c p at e) in
         let same : lastRef ps ≡ lastRef (p ∷ ps) = rw e in (
-          le-trans (c .now) (meets-by t (lastRef ps) F B (q .0)),
-          subst (λ r. Prompt t r G Bs) same (sooner t (lastRef ps) (F + t .spacing) G Bs pace (q .1)),
+          le-trans (c .now) (entry-by t (lastRef ps) F i xs x is q),
+          subst (λ r. Prompt t r G (map lower (without i xs))) same
+              (sooner t (lastRef ps) (F + t .spacing) G (map lower (without i xs)) pace (one-opened t (lastRef ps) F i xs spare q)),
         )
 
     -- a refresh that is called for leaves time for all
-    pub refresh-punctual : (Bs : List ℕ) → wasRead p ≡ false → wasWrite p ≡ false → wasRefresh p ≡ true → lastRef ps + t .refi ≤ k + t .rc
-        → Close k Bs → Punctual t ps k Bs → Punctual t (p ∷ ps) (k + 2) Bs
-    refresh-punctual Bs r w e due near q =
+    pub refresh-punctual : (xs : List Awaited) → wasRead p ≡ false → wasWrite p ≡ false → wasRefresh p ≡ true
+        → lastRef ps + t .refi ≤ k + t .rc → Close k xs → Punctual t ps k xs → Punctual t (p ∷ ps) (k + 2) xs
+    refresh-punctual xs r w e due near q =
         let F = soonest t ps k in
         let G = soonest t (p ∷ ps) (k + 2) in
         let c = soonest-pace t ps k in
         let now = c .now in
         let pace = pace-soonest t (p ∷ ps) (k + 2) (F + t .refc) (pace-refresh t f ps k F c p at r w) in
         let new : k + 1 ≡ lastRef (p ∷ ps) = rw (e, at) in
-        subst (λ r. Prompt t r G Bs) new
-        (sooner t (k + 1) (F + t .refc) G Bs pace (put-off t f (lastRef ps) k due F (F + t .refc) Bs (le-trans (le-add-right k 1) now) refl near q))
+        let off = put-off t f (lastRef ps) k due F (F + t .refc) xs (le-trans (le-add-right k 1) now) refl near q in
+        subst (λ r. Prompt t r G xs) new (sooner t (k + 1) (F + t .refc) G xs pace off)

@@ -1,151 +1,102 @@
--- A controller's state stands for how far the calls have come: an offer and a tick lead from the one as from the other. Assumes nothing.
+-- A controller's state stands for how far the calls have come: an offer, and a tick that is handed any choice, lead from the one as from
+-- the other. No ground of 19 holds of such a state; what its timestamps and its open pair come to is Image's.
 use Prim.Native.Nat.{ℕ, zero, suc, _+_, _-_, _≤_, _<_}
 use mathlib.Core.Path.{_≡_, refl, sym, _∙_, ap, subst⁻¹}
-use mathlib.Core.Bool.{Bool, true, false, cond, _&&_, and-false, false≢true}
-use mathlib.Core.List.{List, [], _∷_, _++_, append-assoc}
-use mathlib.Core.Option.{Option, none, some}
+use mathlib.Core.Bool.{true, false, cond, _&&_, and-false, false≢true}
+use mathlib.Core.List.{List, [], _∷_, append-assoc}
 use native.Mathlib.Omega.{arith}
 use borrow.Author.Tests.{lt-ltb, le-ltb, le-leb, ne-eqb}
 use lib.ListN.{length, length-append, replicate}
-use lib.Seq.{take-append-seam, drop-append-seam, set-append-seam}
+use lib.Seq.{take-append-seam, set-append-seam}
 use lib.Dec.{eqb, ltb}
 use Rattle.basics.specs.Outcome.{value}
 use Rattle.config.specs.Configuration.{timingOf}
 use Rattle.config.specs.declared.Config.{Config}
 use Rattle.config.specs.declared.Timing.{Timing}
-use Rattle.writing.specs.Writing.{pairOf, requestFits, operationFits}
+use Rattle.writing.specs.Writing.{pairOf, requestFits}
 use Rattle.command.specs.declared.operation.Request.{Request}
 use Rattle.command.specs.declared.operation.Operation.{Operation}
-use Rattle.command.specs.declared.operation.Operation.the-variants.{Access, Regular as RegularMode, Extended as ExtendedMode, Refresh as Refreshing}
 use Rattle.rules.specs.History.{ClosedPair, free}
 use Rattle.stamps.specs.Stamps.{remembered}
 use Rattle.rules.proofs.Newest.{Ordered}
 use Rattle.rules.proofs.Summary.{summary, summary-step}
 use Rattle.rules.proofs.Words.{ordered-mono}
-use Rattle.protocol.proofs.Before.{fits}
-use Rattle.model.specs.Laid.{Course}
+use Rattle.checker.proofs.Before.{fits}
+use Rattle.model.specs.Laid.{entryAt, Course}
 use Rattle.model.specs.Laid as laid
-use Rattle.queue.specs.Queue.{vacant, allFit, movedUp}
-use Rattle.scheduler.specs.Pairs.{pairWords, ofOldest, nextPair}
-use Rattle.controller.specs.Steps.{Offer, held, stateFits, joined, notOffered, offerOf, passes, notTicked, tickOf}
-use Rattle.model.specs.Runs.{requestOf, isAccess, accessOpen}
+use Rattle.queue.specs.Queue.{vacant, allFit, requestAt}
+use Rattle.scheduler.specs.Pairs.{pairWords, ofWaiting, placeOf, chosenAt, nextPair}
+use Rattle.controller.specs.Steps.{Offer, held, stateFits, joined, notOffered, offerOf, passes, notTicked, tickChoosing}
+use Rattle.model.specs.Runs.{isAccess, accessOpen}
 use Rattle.controller.specs.declared.Controller.{Controller}
 use Rattle.scheduler.specs.declared.OpenPair.{OpenPair}
-use Rattle.scheduler.specs.declared.OpenPair.the-variants.{Nothing, Extended, Regular, Refresh, Oldest}
+use Rattle.scheduler.specs.declared.OpenPair.the-variants.{Nothing}
 use Rattle.model.proofs.Figures.{Figures}
-use Rattle.model.proofs.Candidates.{AllFit, Due, candidate-due}
+use Rattle.model.proofs.Candidates.{AllFit, entry-fits, candidate-due}
+use Rattle.model.proofs.Prompt.{Awaited, requests}
 use Rattle.model.proofs.Turn.{idle}
-use Rattle.model.proofs.Going.{opening-due, leave-front, inPair, atRest, Going, between, within}
-use Rattle.model.proofs.Image.{operationIn, pairIn, isSome, words-in, open-in, oldest-in, first-in, front, front-of, image, next-is, opens-is}
+use Rattle.model.proofs.Choice.{Kind, all-fit, fit-back}
+use Rattle.model.proofs.Going.{opening-due, inPair, atRest, Going, between, within}
+use Rattle.model.proofs.Image.{
+  standsFor,
+  pairIn,
+  isSome,
+  words-in,
+  open-in,
+  waiting-in,
+  first-in,
+  behind,
+  Placed,
+  none-placed,
+  either-placed,
+  OfWaiting,
+  of-waiting-test,
+  same-open,
+  due-waiting,
+  Left,
+  left,
+  image,
+  next-is,
+  next-placed,
+  opens-is,
+}
 
-all-fit : (t : Timing) (rs : List Request) → AllFit t rs → allFit t rs ≡ true
-all-fit t [] a = refl
-all-fit t (r ∷ rs) a = rw (a .0, all-fit t rs (a .1))
+-- what 19 asks of how far the calls have come
+module _ (t : Timing) (f : Figures t) (g : Kind t) where
+  ordered : (x : Course) (xs : List Awaited) → Going t f g x xs → Ordered (x .past .clock) (x .past .pairs)
+  ordered x xs (between b) = rw (b .at) (b .ordered)
+  ordered x xs (within w) = rw (w .at) (ordered-mono (w .start) (w .start + 1) (omega arith) (w .pairs) (w .ordered))
 
-fit-front : (t : Timing) (o : Operation) (qs : List Request) → operationFits t o ≡ true → AllFit t qs → AllFit t (requestOf o ++ qs)
-fit-front t (Access r) qs h a = (h, a)
-fit-front t (RegularMode a3) qs h a = a
-fit-front t (ExtendedMode v) qs h a = a
-fit-front t Refreshing qs h a = a
+  begun : (x : Course) (xs : List Awaited) → Going t f g x xs → (eqb (x .past .clock) 0 && isSome (x .opened)) ≡ false
+  begun x xs (between b) = rw (b .at, and-false)
+  begun x xs (within w) = rw (w .at, ne-eqb (w .start + 1) 0 (λ q. omega arith))
 
--- what a state that stands for it needs
-module _ (t : Timing) (f : Figures t) where
-  ordered : (x : Course) (Bs : List ℕ) → Going t f x Bs → Ordered (x .past .clock) (x .past .pairs)
-  ordered x Bs (between ps k rs e o ph q) = rw e o
-  ordered x Bs (within ps u o qs e d fits b ph q) = rw e (ordered-mono u (u + 1) (omega arith) ps d)
+  all-in-range : (x : Course) (xs : List Awaited) → Going t f g x xs → allFit t (x .waiting) ≡ true
+  all-in-range x xs (between b) = rw (b .at) (all-fit t (requests xs) (b .queue .fit))
+  all-in-range x xs (within w) =
+      let rest = subst⁻¹ (AllFit t) (w .leaves) (w .queue .fit) in
+      rw (w .at) (all-fit t (w .waiting) (fit-back t (w .operation) (w .place) (w .waiting) (w .chosen) (w .fits) rest))
 
-  begun : (x : Course) (Bs : List ℕ) → Going t f x Bs → (eqb (x .past .clock) 0 && isSome (x .opened)) ≡ false
-  begun x Bs (between ps k rs e o ph q) = rw (e, and-false)
-  begun x Bs (within ps u o qs e d fits b ph q) = rw (e, ne-eqb (u + 1) 0 (λ q. omega arith))
+-- the open pair p stands for the one that is open, and of sixteen places n are vacant
+pub record Stands (x : Course) (p : OpenPair) (n : ℕ) : Type 0 where
+  pub room : length (x .waiting) + n ≡ 16
+  pub operation : standsFor p (x .waiting) ≡ x .opened
+  pub of-waiting : OfWaiting p (x .waiting)
+  pub placed : Placed (x .place) p
 
-  all-in-range : (x : Course) (Bs : List ℕ) → Going t f x Bs → allFit t (x .waiting) ≡ true
-  all-in-range x Bs (between ps k rs e o ph q) = rw e (all-fit t rs (q .fit))
-  all-in-range x Bs (within ps u o qs e d fits b ph q) = rw e (all-fit t (requestOf o ++ qs) (fit-front t o qs fits (q .fit)))
-
--- an open read or write is of a waiting request
-abbrev OfWaiting : OpenPair → List Request → Type 0
-OfWaiting p rs = ofOldest p ≡ true → 1 ≤ length rs
-
-of-waiting-test : (p : OpenPair) (rs : List Request) → OfWaiting p rs → (ofOldest p && eqb (length rs) 0) ≡ false
-of-waiting-test p rs h = go (ofOldest p) h
-  where
-    go : (b : Bool) → (b ≡ true → 1 ≤ length rs) → (b && eqb (length rs) 0) ≡ false
-    go true h =
-        let n = h refl in
-        ne-eqb (length rs) 0 (λ q. omega arith)
-    go false h = refl
-
--- one more behind leaves the oldest
-same-front : (p : OpenPair) (rs : List Request) (r : Request) → OfWaiting p rs → operationIn p (front (rs ++ (r ∷ []))) ≡ operationIn p (front rs)
-same-front Nothing rs r h = refl
-same-front Extended rs r h = refl
-same-front Regular rs r h = refl
-same-front Refresh rs r h = refl
-same-front Oldest [] r h =
-    let n = h refl in
-    absurd (omega arith)
-same-front Oldest (q ∷ rs) r h = refl
-
-due-waiting : (t : Timing) (rs : List Request) (x : Option Operation) → Due t rs x → accessOpen x ≡ true → 1 ≤ length rs
-due-waiting t rs none d e = absurd (false≢true e)
-due-waiting t rs (some (Access r)) d e = rw (d .1 .1) (omega arith)
-due-waiting t rs (some (RegularMode a3)) d e = absurd (false≢true e)
-due-waiting t rs (some (ExtendedMode v)) d e = absurd (false≢true e)
-due-waiting t rs (some Refreshing) d e = absurd (false≢true e)
-
--- the queue once the closing word of o is out
-abbrev places : List Request → ℕ → List Request
-places rs n = rs ++ replicate n vacant
-
-record Left (o : Operation) (qs : List Request) (spare : ℕ) : Type 0 where
-  vacancies : ℕ
-  queue : cond (isAccess o) (movedUp (length (requestOf o ++ qs)) (places (requestOf o ++ qs) spare)) (places (requestOf o ++ qs) spare) ≡ places qs vacancies
-  count : cond (isAccess o) (length (requestOf o ++ qs) - 1) (length (requestOf o ++ qs)) ≡ length qs
-  total : length qs + vacancies ≡ 16
-
-left : (o : Operation) (qs : List Request) (spare : ℕ) → length (requestOf o ++ qs) + spare ≡ 16 → Left o qs spare
-left (Access r) qs spare h =
-    record {
-      vacancies = suc spare;
-      queue = rw (take-append-seam qs (replicate spare vacant), drop-append-seam qs (replicate spare vacant));
-      count = omega arith;
-      total = omega arith;
-    }
-left (RegularMode a3) qs spare h = record { vacancies = spare; queue = refl; count = refl; total = h }
-left (ExtendedMode v) qs spare h = record { vacancies = spare; queue = refl; count = refl; total = h }
-left Refreshing qs spare h = record { vacancies = spare; queue = refl; count = refl; total = h }
-
-module _ (c : Config) (t : Timing) (is : timingOf c ≡ value t) (f : Figures t) where
+module _ (c : Config) (t : Timing) where
+  -- the state is the one that stands for this
   pub record Represents (s : Controller) (x : Course) : Type 0 where
     pub opened : OpenPair
     pub spare : ℕ
     pub state : s ≡ image c t x opened spare
-    pub room : length (x .waiting) + spare ≡ 16
-    pub operation : operationIn opened (front (x .waiting)) ≡ x .opened
-    pub of-waiting : OfWaiting opened (x .waiting)
+    pub stands : Stands x opened spare
 
+  -- what the state holds waiting is what waits
   pub held-is : (s : Controller) (x : Course) → Represents s x → held s ≡ x .waiting
   held-is s x r = ap held (r .state) ∙ take-append-seam (x .waiting) (replicate (r .spare) vacant)
 
-  -- the state is one that calls make, so 19 has no ground
-  state-fits : (x : Course) (Bs : List ℕ) (p : OpenPair) (n : ℕ) → Going t f x Bs → x .past .clock ≤ 16777216 → length (x .waiting) + n ≡ 16
-      → operationIn p (front (x .waiting)) ≡ x .opened → OfWaiting p (x .waiting) → stateFits t (image c t x p n) ≡ true
-  state-fits x Bs p n g low room e h =
-      rw
-      (fits (t .four) free (x .past .clock) (x .past .pairs) (omega arith, ordered t f x Bs g) low, open-in p (front (x .waiting)), e, begun t f x Bs g, le-leb (length (x .waiting)) 16 (omega arith), take-append-seam (x .waiting) (replicate n vacant), all-in-range t f x Bs g, of-waiting-test p (x .waiting) h)
-
-  abbrev pub refusing : Controller → List Request → Request → Offer
-  refusing s rs q =
-      cond (requestFits t q) (cond (ltb (length rs) 16) (record { outcome = value tt; after = joined s q }) (notOffered s 27)) (notOffered s 26)
-
-  -- an offer is refused for 26 or 27 alone
-  pub offer-is : (s : Controller) (x : Course) (Bs : List ℕ) (q : Request) → Represents s x → Going t f x Bs → x .past .clock ≤ 16777216
-      → offerOf s q ≡ refusing s (x .waiting) q
-  offer-is s x Bs q r g low =
-      subst⁻¹ (λ s. offerOf s q ≡ refusing s (x .waiting) q) (r .state)
-      (rw (is, state-fits x Bs (r .opened) (r .spare) g low (r .room) (r .operation) (r .of-waiting)))
-
-  -- and otherwise joins the queue
+  -- an accepted request joins the queue
   joined-image : (x : Course) (p : OpenPair) (n : ℕ) (q : Request) → joined (image c t x p (suc n)) q ≡ image c t (laid.queued x q) p n
   joined-image x p n q =
       let rs = x .waiting in
@@ -153,105 +104,180 @@ module _ (c : Config) (t : Timing) (is : timingOf c ≡ value t) (f : Figures t)
       let count = sym (length-append rs (q ∷ [])) in
       rw (places, count)
 
-  pub offer-represents : (s : Controller) (x : Course) (q : Request) → Represents s x → length (x .waiting) < 16 → Represents (joined s q) (laid.queued x q)
-  offer-represents s x q r few = go (r .spare) (r .state) (r .room)
+  pub offer-represents : (s : Controller) (x : Course) (q : Request) → Represents s x → length (x .waiting) < 16
+      → Represents (joined s q) (laid.queued x q)
+  offer-represents s x q r few = go (r .spare) (r .state) (r .stands)
     where
-      go : (n : ℕ) → s ≡ image c t x (r .opened) n → length (x .waiting) + n ≡ 16 → Represents (joined s q) (laid.queued x q)
-      go zero e h = absurd (omega arith)
+      go : (n : ℕ) → s ≡ image c t x (r .opened) n → Stands x (r .opened) n → Represents (joined s q) (laid.queued x q)
+      go zero e h =
+          let room = h .room in
+          absurd (omega arith)
       go (suc n) e h =
+          let room = h .room in
           let one = length-append (x .waiting) (q ∷ []) in
           record {
             opened = r .opened;
             spare = n;
             state = ap (λ s. joined s q) e ∙ joined-image x (r .opened) n q;
-            room = omega arith;
-            operation = same-front (r .opened) (x .waiting) q (r .of-waiting) ∙ r .operation;
-            of-waiting = λ o. omega arith;
+            stands =
+                record {
+                  room = omega arith;
+                  operation = same-open (r .opened) (x .waiting) q (h .of-waiting) ∙ h .operation;
+                  of-waiting =
+                      λ o.
+                      let low = h .of-waiting o in
+                      omega arith;
+                  placed = h .placed;
+                };
           }
 
-  -- an accepted tick gives this word and leads to this
-  pub record Ticks (s : Controller) (a : laid.Advance) : Type 0 where
+  -- an accepted tick that is handed this place gives this word and leads to this
+  pub record Ticks (s : Controller) (q : ℕ) (a : laid.Advance) : Type 0 where
     pub after : Controller
-    pub tick : tickOf s ≡ record { outcome = value tt; word = a .word; after = after }
+    pub tick : tickChoosing t s q ≡ record { outcome = value tt; word = a .word; after = after }
     pub represents : Represents after (a .after)
 
+-- an offer, where 26 and 27 are all that it can be refused for
+abbrev pub refusing : Timing → Controller → List Request → Request → Offer
+refusing t s rs q =
+    cond (requestFits t q) (cond (ltb (length rs) 16) (record { outcome = value tt; after = joined s q }) (notOffered s 27))
+    (notOffered s 26)
+
+module _ (c : Config) (t : Timing) (is : timingOf c ≡ value t) (f : Figures t) (kd : Kind t) where
+  -- the state is one that calls make, so 19 has no ground
+  state-fits : (x : Course) (xs : List Awaited) (p : OpenPair) (n : ℕ) → Going t f kd x xs → x .past .clock ≤ 16777216 → Stands x p n
+      → stateFits t (image c t x p n) ≡ true
+  state-fits x xs p n g low h =
+      let rs = x .waiting in
+      let room = h .room in
+      rw (
+        fits (t .four) free (x .past .clock) (x .past .pairs) (omega arith, ordered t f kd x xs g) low,
+        open-in p rs,
+        h .operation,
+        begun t f kd x xs g,
+        le-leb (length rs) 16 (omega arith),
+        take-append-seam rs (replicate n vacant),
+        all-in-range t f kd x xs g,
+        of-waiting-test p rs (h .of-waiting),
+      )
+
+  pub offer-is : (s : Controller) (x : Course) (xs : List Awaited) (q : Request) → Represents c t s x → Going t f kd x xs
+      → x .past .clock ≤ 16777216 → offerOf s q ≡ refusing t s (x .waiting) q
+  offer-is s x xs q r g low =
+      subst⁻¹ (λ s. offerOf s q ≡ refusing t s (x .waiting) q) (r .state)
+      (rw (is, state-fits x xs (r .opened) (r .spare) g low (r .stands)))
+
   -- where no pair is open
-  starts-as : (ps : List ClosedPair) (k : ℕ) (rs : List Request) (Bs : List ℕ) (p : OpenPair) (n : ℕ) → let x = atRest t f k ps rs in
-      Going t f x Bs → Ordered k ps → AllFit t rs → k < 16777216 → length rs + n ≡ 16 → operationIn p (front rs) ≡ none → OfWaiting p rs
-      → Ticks (image c t x p n) (laid.tick t x)
-  starts-as ps k rs Bs p n g o a low room e h =
-      let x = atRest t f k ps rs in
-      let next = nextPair t (summary (t .four) ps) k (length rs) in
-      let opening = laid.opening t (idle k ps) (laid.candidate t (idle k ps) rs) in
-      let due = opening-due t rs (idle k ps) (laid.candidate t (idle k ps) rs) (candidate-due t (idle k ps) rs a) .0 in
-      let opens = cond (passes t (summary (t .four) ps) k (pairWords t next (front rs))) next Nothing in
-      let same : operationIn opens (front rs) ≡ opening = opens-is t ps k f rs next (laid.candidate t (idle k ps) rs) o (candidate-due t (idle k ps) rs a) (next-is t ps k rs) in
-      let word : pairWords t opens (front rs) .first ≡ laid.firstWord t opening = ap (λ w. w .first) (words-in t opens (front rs)) ∙ ap (λ y. pairIn t y .first) same ∙ first-in t opening in
+  starts-as : (q : ℕ) (ps : List ClosedPair) (k i : ℕ) (xs : List Awaited) (p : OpenPair) (n : ℕ) → Ordered k ps → AllFit t (requests xs)
+      → let x = atRest k ps i (requests xs) in
+      Going t f kd x xs → k < 16777216 → Stands x p n → Ticks c t (image c t x p n) q (laid.tickAt q t x)
+  starts-as q ps k i xs p n o a g low h =
+      let rs = requests xs in
+      let x = atRest k ps i rs in
+      let y = entryAt q rs in
+      let asked = laid.candidate t (idle k ps) y in
+      let opening = laid.opening t (idle k ps) asked in
+      let in-range = candidate-due t (idle k ps) y (entry-fits t q rs a) in
+      let due = opening-due t y (idle k ps) asked in-range .0 in
+      let next = nextPair t (summary (t .four) ps) k (chosenAt q (length rs)) in
+      let pass = passes t (summary (t .four) ps) k (pairWords t next (requestAt q rs)) in
+      let opens = cond pass next Nothing in
+      let at = next-placed t ps k q (length rs) in
+      let placed : Placed q opens = either-placed q pass next Nothing at (none-placed q) in
+      let same : standsFor opens rs ≡ opening = opens-is t ps k f q rs y next asked o in-range at (next-is t ps k q rs) in
+      let word : pairWords t opens (requestAt q rs) .first ≡ laid.firstWord t opening =
+      ap (λ w. w .first) (words-in t q opens rs placed) ∙ ap (λ y. pairIn t y .first) same ∙ first-in t opening in
+      let of-request : ofWaiting opens ≡ true → accessOpen opening ≡ true = λ w. sym (ap accessOpen same) ∙ sym (waiting-in opens rs) ∙ w in
       record {
-        after = image c t (laid.tick t x .after) opens n;
+        after = image c t (laid.tickAt q t x .after) opens n;
         tick =
-            rw
-            (is, state-fits x Bs p n g (omega arith) room e h, lt-ltb k 16777216 low, open-in p (front rs), e, front-of rs n, word);
+            rw (
+              state-fits x xs p n g (omega arith) h,
+              lt-ltb k 16777216 low,
+              open-in p rs,
+              h .operation,
+              behind rs n q,
+              word,
+            );
         represents =
             record {
               opened = opens;
               spare = n;
               state = refl;
-              room = room;
-              operation = same;
-              of-waiting = λ w. due-waiting t rs opening due (sym (ap accessOpen same) ∙ sym (oldest-in opens (front rs)) ∙ w);
+              stands =
+                  record {
+                    room = h .room;
+                    operation = same;
+                    of-waiting = λ w. subst⁻¹ (λ j. j < length rs) (placed w) (due-waiting t q rs opening due (of-request w));
+                    placed = placed;
+                  };
             };
       }
 
   -- where one is
-  closes-as : (ps : List ClosedPair) (u : ℕ) (o : Operation) (qs : List Request) (Bs : List ℕ) (p : OpenPair) (n : ℕ) → let rs = requestOf o ++ qs in
-      let x = inPair t f u o ps rs in
-      Going t f x Bs → u + 1 < 16777216 → length rs + n ≡ 16 → operationIn p (front rs) ≡ some o → OfWaiting p rs
-      → Ticks (image c t x p n) (laid.tick t x)
-  closes-as ps u o qs Bs p n g low room e h =
-      let rs = requestOf o ++ qs in
-      let x = inPair t f u o ps rs in
+  closes-as : (q : ℕ) (ps : List ClosedPair) (u : ℕ) (o : Operation) (i : ℕ) (rs : List Request) (xs : List Awaited) (p : OpenPair) (n : ℕ)
+      → Left o i (placeOf p) rs n → let x = inPair t u o ps i rs in
+      Going t f kd x xs → u + 1 < 16777216 → Stands x p n → Ticks c t (image c t x p n) q (laid.tickAt q t x)
+  closes-as q ps u o i rs xs p n l g low h =
+      let x = inPair t u o ps i rs in
       let w = pairOf t o in
-      let l = left o qs n room in
+      let kind : ofWaiting p ≡ isAccess o = waiting-in p rs ∙ ap accessOpen (h .operation) in
+      let stamps = summary (t .four) ps in
       let from : u + 1 - 1 + 1 ≡ u + 1 = omega arith in
-      let kept : remembered (t .four) (summary (t .four) ps) (u + 1) (w .first) (w .second) ≡ summary (t .four) (laid.tick t x .after .past .pairs) = sym (summary-step (t .four) (u + 1 - 1) (w .first) (w .second) ps ∙ ap (λ k. remembered (t .four) (summary (t .four) ps) k (w .first) (w .second)) from) in
-      let words : pairWords t p (front rs) ≡ w = words-in t p (front rs) ∙ ap (pairIn t) e in
-      let kind : ofOldest p ≡ isAccess o = oldest-in p (front rs) ∙ ap accessOpen e in
+      let kept : remembered (t .four) stamps (u + 1) (w .first) (w .second) ≡ summary (t .four) (laid.tickAt q t x .after .past .pairs) =
+      sym
+      (summary-step (t .four) (u + 1 - 1) (w .first) (w .second) ps
+      ∙ ap (λ k. remembered (t .four) stamps k (w .first) (w .second)) from) in
+      let words : pairWords t p (requestAt (placeOf p) rs) ≡ w = words-in t (placeOf p) p rs (λ a. refl) ∙ ap (pairIn t) (h .operation) in
       record {
-        after = image c t (laid.tick t x .after) Nothing (l .vacancies);
+        after = image c t (laid.tickAt q t x .after) Nothing (l .vacancies);
         tick =
-            rw
-            (is, state-fits x Bs p n g (omega arith) room e h, lt-ltb (u + 1) 16777216 low, open-in p (front rs), e, front-of rs n, words, kind, kept, l .queue, l .count, leave-front o qs);
+            rw (
+              state-fits x xs p n g (omega arith) h,
+              lt-ltb (u + 1) 16777216 low,
+              open-in p rs,
+              h .operation,
+              behind rs n (placeOf p),
+              words,
+              kind,
+              kept,
+              l .queue,
+              l .count,
+            );
         represents =
             record {
               opened = Nothing;
               spare = l .vacancies;
               state = refl;
-              room = rw (leave-front o qs) (l .total);
-              operation = refl;
-              of-waiting = λ w. absurd (false≢true w);
+              stands = record { room = l .total; operation = refl; of-waiting = λ w. absurd (false≢true w); placed = none-placed i };
             };
       }
 
-  abbrev Leads : List ℕ → OpenPair → ℕ → Course → Type 0
-  Leads Bs p n x =
-      Going t f x Bs
-      → x .past .clock < 16777216
-      → length (x .waiting) + n ≡ 16
-      → operationIn p (front (x .waiting)) ≡ x .opened
-      → OfWaiting p (x .waiting)
-      → Ticks (image c t x p n) (laid.tick t x)
+  abbrev Leads : ℕ → List Awaited → OpenPair → ℕ → Course → Type 0
+  Leads q xs p n x =
+      Going t f kd x xs → x .past .clock < 16777216 → Stands x p n → Ticks c t (image c t x p n) q (laid.tickAt q t x)
 
-  leads : (x : Course) (Bs : List ℕ) (p : OpenPair) (n : ℕ) → Going t f x Bs → Leads Bs p n x
-  leads x Bs p n (between ps k rs e o ph q) = subst⁻¹ (Leads Bs p n) e (λ g. starts-as ps k rs Bs p n g o (q .fit))
-  leads x Bs p n (within ps u o qs e d fits b ph q) = subst⁻¹ (Leads Bs p n) e (closes-as ps u o qs Bs p n)
+  leads : (q : ℕ) (x : Course) (xs : List Awaited) (p : OpenPair) (n : ℕ) → Going t f kd x xs → Leads q xs p n x
+  leads q x xs p n (between b) =
+      subst⁻¹ (Leads q xs p n) (b .at) (starts-as q (b .pairs) (b .clock) (b .place) xs p n (b .ordered) (b .queue .fit))
+  leads q x xs p n (within w) =
+      let o = w .operation in
+      let rs = w .waiting in
+      subst⁻¹ (Leads q xs p n) (w .at)
+      (λ g low h.
+      let kind = waiting-in p rs ∙ ap accessOpen (h .operation) in
+      let l = left o (w .place) (placeOf p) rs n (w .chosen) (λ a. h .placed (kind ∙ a)) (h .room) in
+      closes-as q (w .pairs) (w .start) o (w .place) rs xs p n l g low h)
 
-  pub tick-represents : (s : Controller) (x : Course) (Bs : List ℕ) → Represents s x → Going t f x Bs → x .past .clock < 16777216 → Ticks s (laid.tick t x)
-  tick-represents s x Bs r g low =
-      subst⁻¹ (λ s. Ticks s (laid.tick t x)) (r .state) (leads x Bs (r .opened) (r .spare) g g low (r .room) (r .operation) (r .of-waiting))
+  -- a tick that is handed the choice of the request at place q
+  pub tick-represents : (q : ℕ) (s : Controller) (x : Course) (xs : List Awaited) → Represents c t s x → Going t f kd x xs
+      → x .past .clock < 16777216 → Ticks c t s q (laid.tickAt q t x)
+  tick-represents q s x xs r g low =
+      subst⁻¹ (λ s. Ticks c t s q (laid.tickAt q t x)) (r .state) (leads q x xs (r .opened) (r .spare) g g low (r .stands))
 
-  -- at the limit a tick is refused
-  pub tick-ends : (s : Controller) (x : Course) (Bs : List ℕ) → Represents s x → Going t f x Bs → x .past .clock ≡ 16777216 → tickOf s ≡ notTicked s 24
-  tick-ends s x Bs r g end =
-      subst⁻¹ (λ s. tickOf s ≡ notTicked s 24) (r .state)
-      (rw (is, state-fits x Bs (r .opened) (r .spare) g (omega arith) (r .room) (r .operation) (r .of-waiting), le-ltb (x .past .clock) 16777216 (omega arith)))
+  -- at the limit a tick is refused, whatever is chosen
+  pub tick-ends : (q : ℕ) (s : Controller) (x : Course) (xs : List Awaited) → Represents c t s x → Going t f kd x xs
+      → x .past .clock ≡ 16777216 → tickChoosing t s q ≡ notTicked s 24
+  tick-ends q s x xs r g end =
+      subst⁻¹ (λ s. tickChoosing t s q ≡ notTicked s 24) (r .state)
+      (rw (state-fits x xs (r .opened) (r .spare) g (omega arith) (r .stands), le-ltb (x .past .clock) 16777216 (omega arith)))

@@ -1,16 +1,12 @@
--- What every list of calls keeps, of the controller and of what is laid down together. Assumes nothing.
+-- What every list of calls keeps, of what is laid down and of the requests that were accepted, whatever the choice and whatever controller
+-- gives and accepts them: a tick by Going, an accepted offer by Offered.
 use Prim.Native.Nat.{ℕ, zero, suc, _+_, _≤_, _<_}
-use mathlib.Core.Path.{_≡_, refl, sym, _∙_, ap, subst, subst⁻¹}
-use mathlib.Core.Bool.{Bool, true, false, cond, _&&_}
+use mathlib.Core.Path.{_≡_, refl, sym, _∙_, ap, subst}
+use mathlib.Core.Bool.{Bool, true, false, cond}
 use mathlib.Core.List.{List, [], _∷_, _++_, map, map-append, append-nil, append-assoc}
 use mathlib.Core.Option.{Option, none, some}
 use native.Mathlib.Omega.{arith}
-use borrow.Author.Tests.{lt-ltb, ltb-true, ltb-false}
 use lib.ListN.{length, length-append}
-use lib.Dec.{ltb}
-use Rattle.basics.specs.Outcome.{value, refused}
-use Rattle.config.specs.Configuration.{timingOf}
-use Rattle.config.specs.declared.Config.{Config}
 use Rattle.config.specs.declared.Timing.{Timing}
 use Rattle.writing.specs.Writing.{requestFits}
 use Rattle.command.specs.declared.operation.Request.{Request}
@@ -20,13 +16,16 @@ use Rattle.rules.specs.Rules.{breachAt}
 use Rattle.rules.specs.Verdict.{Judgement, accepted, breach, lead, judgeFrom, judge}
 use Rattle.rules.proofs.Words.{past-append}
 use Rattle.model.specs.Laid as laid
-use Rattle.controller.specs.Steps.{held, offerOf}
-use Rattle.model.specs.Runs.{Call, offer, tick, Accepted, Run, called, Prescribed, followed, ifAccepted, requestsOf, runFrom, prescribedFrom}
+use Rattle.rules.specs.Turns.{requestsOf}
+use Rattle.model.specs.Runs.{Accepted, Prescribed}
 use Rattle.model.proofs.Figures.{Figures}
-use Rattle.model.proofs.Fulfilled.{Met, one-asked}
+use Rattle.model.proofs.Fulfilled.{Met, one-asked, boundsOf}
+use Rattle.model.proofs.Places.{only, only-append}
+use Rattle.model.proofs.Prompt.{Awaited}
 use Rattle.model.proofs.Unopened.{bound}
-use Rattle.model.proofs.Going.{firstsOf, Going, tick-goes, offer-goes}
-use Rattle.model.proofs.Represents.{Represents, held-is, refusing, offer-is, offer-represents, tick-represents, tick-ends}
+use Rattle.model.proofs.Choice.{Kind, firstsOf, LawfulAt, unopened}
+use Rattle.model.proofs.Going.{Going, inAll, tick-goes}
+use Rattle.model.proofs.Offered.{offer-goes, start-goes}
 
 abbrev Passed : Judgement → Type 0
 Passed accepted = Unit {0}
@@ -41,123 +40,139 @@ judge-snoc : (t : Timing) (p : Past) (ws : List ℕ) (w : ℕ) → judgeFrom t p
 judge-snoc t p [] w e h = rw h
 judge-snoc t p (v ∷ ws) w e h = led (breachAt t p v) (p .clock) _ _ e (λ r. judge-snoc t (extend p v) ws w r h)
 
-tick-past : (t : Timing) (x : laid.Course) → laid.tick t x .after .past ≡ extend (x .past) (laid.tick t x .word)
-tick-past t x = by (x .opened)
+tick-past : (i : ℕ) (t : Timing) (x : laid.Course) → laid.tickAt i t x .after .past ≡ extend (x .past) (laid.tickAt i t x .word)
+tick-past i t x = by (x .opened)
   where
-    by : (o : Option Operation) → laid.tickWith o t x .after .past ≡ extend (x .past) (laid.tickWith o t x .word)
+    by : (o : Option Operation) → laid.tickWith o i t x .after .past ≡ extend (x .past) (laid.tickWith o i t x .word)
     by none = refl
     by (some o) = refl
 
--- the bound of an accepted request's closing word
-abbrev pub closingBound : Timing → Accepted → ℕ
-closingBound t a = bound t (a .ticks) (a .ahead)
+-- how far a tick that chose the one at i, and an accepted offer, bring what is laid down
+abbrev pub tickedAt : ℕ → Timing → Prescribed → Prescribed
+tickedAt i t k =
+    let a = laid.tickAt i t (k .course) in
+    record { words = k .words ++ (a .word ∷ []); course = a .after }
 
--- a refused call adds nothing
-nothing-added : {A : Type 0} (n : ℕ) (a : A) (all : List A) → all ++ ifAccepted (refused n) a ≡ all
-nothing-added n a all = append-nil all
+-- how far an accepted offer brings what is laid down
+abbrev pub offeredAt : Prescribed → Request → Prescribed
+offeredAt k q = record { words = k .words; course = laid.queued (k .course) q }
 
-module _ (c : Config) (t : Timing) (is : timingOf c ≡ value t) (f : Figures t) where
-  pub record AsPrescribed (r : Run) (k : Prescribed) : Type 0 where
-    pub words : r .words ≡ k .words
+-- what is remembered of that request
+abbrev pub acceptedAt : Prescribed → Request → Accepted
+acceptedAt k q = record { request = q; ticks = length (k .words); ahead = length (k .course .waiting) }
+
+-- the accepted requests of a kind
+abbrev pub those : {t : Timing} → Kind t → List Accepted → List Accepted
+those kd all = only (λ a. kd .of (a .request)) all
+
+-- kd is the kind whose order and bounds are followed; `passings` is how often a request may be passed
+module _ (t : Timing) (f : Figures t) (kd : Kind t) (passings : ℕ) where
+  -- the bound of an accepted request's closing word
+  abbrev pub closingBound : Accepted → ℕ
+  closingBound a = bound t (a .ticks) (a .ahead + passings)
+
+  -- what holds of the words that are laid down and the requests that were accepted, whatever controller gives and accepts them; xs are
+  -- those that have not opened
+  pub record Upheld (k : Prescribed) (all : List Accepted) (xs : List Awaited) : Type 0 where
     pub past : k .course .past ≡ pastFrom nothing (k .words)
     pub clock : k .course .past .clock ≡ length (k .words)
     pub limit : length (k .words) ≤ 16777216
     pub sound : judge t (k .words) ≡ accepted
-    pub represents : Represents c t is f (r .controller) (k .course)
-    pub bounds : List ℕ
-    pub going : Going t f (k .course) bounds
-    pub order : requestsOf t (k .course .past .pairs) ++ k .course .waiting ≡ map (λ a. a .request) (r .accepted)
-    pub met : Met (firstsOf (k .course)) (map (closingBound t) (r .accepted)) bounds
+    pub going : Going t f kd (k .course) xs
+    pub order : inAll t f kd (k .course) ≡ map (λ a. a .request) (those kd all)
+    pub met : Met (firstsOf t kd (k .course)) (map closingBound (those kd all)) (boundsOf (kd .of) xs)
 
-  -- a tick
-  given : (r : Run) (k : Prescribed) → AsPrescribed r k → length (k .words) < 16777216
-      → let a = laid.tick t (k .course) in
-      AsPrescribed (called r tick) (record { words = k .words ++ (a .word ∷ []); course = a .after })
-  given r k h low =
+  -- a tick below the limit, and what has become of those that had not opened
+  pub record Ticked (k : Prescribed) (all : List Accepted) (xs : List Awaited) (i : ℕ) : Type 0 where
+    pub left : List Awaited
+    pub opens : left ≡ unopened (tickedAt i t k .course .opened) i xs
+    pub upheld : Upheld (tickedAt i t k) all left
+
+  pub tick-upheld : (k : Prescribed) (all : List Accepted) (xs : List Awaited) (i : ℕ) → Upheld k all xs → LawfulAt t kd (k .course) xs i
+      → length (k .words) < 16777216 → Ticked k all xs i
+  tick-upheld k all xs i h law low =
       let x = k .course in
-      let a = laid.tick t x in
+      let a = laid.tickAt i t x in
       let at = h .clock in
-      let g = tick-goes t f x (h .bounds) (h .going) in
-      let ticks = tick-represents c t is f (r .controller) x (h .bounds) (h .represents) (h .going) (omega arith) in
+      let g = tick-goes t f kd x xs i law (h .going) in
       let longer = length-append (k .words) (a .word ∷ []) in
-      let one : a .after .past .clock ≡ x .past .clock + 1 = ap (λ p. p .clock) (tick-past t x) in
-      subst⁻¹ (λ y. AsPrescribed (record { words = r .words ++ ifAccepted (y .outcome) (y .word); accepted = r .accepted; controller = y .after }) (record { words = k .words ++ (a .word ∷ []); course = a .after })) (ticks .tick)
-      (record {
-        words = ap (λ ws. ws ++ (a .word ∷ [])) (h .words);
-        past = tick-past t x ∙ ap (λ p. extend p (a .word)) (h .past) ∙ sym (past-append nothing (k .words) (a .word));
-        clock = omega arith;
-        limit = omega arith;
-        sound = judge-snoc t nothing (k .words) (a .word) (h .sound) (subst (λ p. breachAt t p (a .word) ≡ 0) (h .past) (g .passes));
-        represents = ticks .represents;
-        bounds = g .left;
-        going = g .going;
-        order = g .order ∙ h .order;
-        met = g .met (map (closingBound t) (r .accepted)) (h .met);
-      })
+      let one : a .after .past .clock ≡ x .past .clock + 1 = ap (λ p. p .clock) (tick-past i t x) in
+      record {
+        left = g .left;
+        opens = g .opens;
+        upheld =
+            record {
+              past = tick-past i t x ∙ ap (λ p. extend p (a .word)) (h .past) ∙ sym (past-append nothing (k .words) (a .word));
+              clock = omega arith;
+              limit = omega arith;
+              sound = judge-snoc t nothing (k .words) (a .word) (h .sound) (subst (λ p. breachAt t p (a .word) ≡ 0) (h .past) (g .passes));
+              going = g .going;
+              order = g .order ∙ h .order;
+              met = g .met (map closingBound (those kd all)) (h .met);
+            };
+      }
 
-  pub tick-prescribed : (r : Run) (k : Prescribed) → AsPrescribed r k → AsPrescribed (called r tick) (followed t k tick)
-  tick-prescribed r k h = by (ltb (length (k .words)) 16777216) refl
+  -- an accepted offer: the request is behind the others, with the rank n
+  abbrev pub joins : Prescribed → Request → ℕ → Awaited
+  joins k q n = record { request = q; rank = n; bound = bound t (k .course .past .clock) (length (k .course .waiting) + passings) }
+
+  more-order : (x : laid.Course) (all : List Accepted) (a : Accepted) → inAll t f kd x ≡ map (λ a. a .request) (those kd all)
+      → inAll t f kd (laid.queued x (a .request)) ≡ map (λ a. a .request) (those kd (all ++ (a ∷ [])))
+  more-order x all a e =
+      rw (
+        only-append (kd .of) (x .waiting) (a .request ∷ []),
+        only-append (λ a. kd .of (a .request)) all (a ∷ []),
+        map-append (λ a. a .request) (those kd all) (those kd (a ∷ [])),
+        ← e,
+      )
+      (go (kd .of (a .request)))
     where
-      a : laid.Advance
-      a = laid.tick t (k .course)
+      out : List Request
+      out = only (kd .of) (requestsOf t (x .past .pairs))
 
-      by : (b : Bool) → ltb (length (k .words)) 16777216 ≡ b → AsPrescribed (called r tick) (cond b (record { words = k .words ++ (a .word ∷ []); course = a .after }) k)
-      by true e = given r k h (ltb-true (length (k .words)) 16777216 e)
-      by false e =
-          let over = ltb-false (length (k .words)) 16777216 e in
-          let at = h .clock in
-          let low = h .limit in
-          rw (tick-ends c t is f (r .controller) (k .course) (h .bounds) (h .represents) (h .going) (omega arith), nothing-added 24 0 (r .words)) h
+      go : (b : Bool) → out ++ (only (kd .of) (x .waiting) ++ cond b (a .request ∷ []) [])
+          ≡ inAll t f kd x ++ map (λ a. a .request) (cond b (a ∷ []) [])
+      go true = sym (append-assoc out (only (kd .of) (x .waiting)) (a .request ∷ []))
+      go false = sym (append-assoc out (only (kd .of) (x .waiting)) [])
 
-  -- an offer
-  taken : (r : Run) (k : Prescribed) (q : Request) → AsPrescribed r k → requestFits t q ≡ true → length (k .course .waiting) < 16
-      → AsPrescribed (called r (offer q)) (record { words = k .words; course = laid.queued (k .course) q })
-  taken r k q h fits few =
-      let s = r .controller in
+  more-met : (us : List ℕ) (all : List Accepted) (xs : List Awaited) (a : Accepted) (n B : ℕ) → closingBound a ≡ B
+      → Met us (map closingBound (those kd all)) (boundsOf (kd .of) xs)
+      → Met us (map closingBound (those kd (all ++ (a ∷ []))))
+      (boundsOf (kd .of) (xs ++ (record { request = a .request; rank = n; bound = B } ∷ [])))
+  more-met us all xs a n B e m =
+      rw (
+        only-append (λ a. kd .of (a .request)) all (a ∷ []),
+        only-append (λ x. kd .of (x .request)) xs (y ∷ []),
+        map-append closingBound (those kd all) (those kd (a ∷ [])),
+        map-append (λ x. x .bound) (only (λ x. kd .of (x .request)) xs) (only (λ x. kd .of (x .request)) (y ∷ [])),
+      )
+      (go (kd .of (a .request)))
+    where
+      y : Awaited
+      y = record { request = a .request; rank = n; bound = B }
+
+      go : (b : Bool) → Met us (map closingBound (those kd all) ++ map closingBound (cond b (a ∷ []) []))
+          (boundsOf (kd .of) xs ++ map (λ x. x .bound) (cond b (y ∷ []) []))
+      go true = rw e (one-asked us (map closingBound (those kd all)) B (boundsOf (kd .of) xs) m)
+      go false = rw (append-nil (map closingBound (those kd all)), append-nil (boundsOf (kd .of) xs)) m
+
+  pub offer-upheld : (k : Prescribed) (all : List Accepted) (xs : List Awaited) (q : Request) (n : ℕ) → passings ≤ 8
+      → n ≤ length (k .course .waiting) + passings → requestFits t q ≡ true → length (k .course .waiting) < 16 → Upheld k all xs
+      → Upheld (offeredAt k q) (all ++ (acceptedAt k q ∷ [])) (xs ++ (joins k q n ∷ []))
+  offer-upheld k all xs q n few-passings low-rank fits few h =
       let x = k .course in
       let at = h .clock in
-      let low = h .limit in
-      let is-held = held-is c t is f s x (h .represents) in
-      let a : Accepted = record { request = q; ticks = length (r .words); ahead = length (held s) } in
-      let at-bound : closingBound t a ≡ bound t (x .past .clock) (length (x .waiting)) = rw (h .words, is-held, at) in
-      rw (offer-is c t is f s x (h .bounds) q (h .represents) (h .going) (omega arith), fits, lt-ltb (length (x .waiting)) 16 few)
-      (record {
-        words = h .words;
+      let at-bound : closingBound (acceptedAt k q) ≡ joins k q n .bound = rw at in
+      record {
         past = h .past;
         clock = h .clock;
         limit = h .limit;
         sound = h .sound;
-        represents = offer-represents c t is f s x q (h .represents) few;
-        bounds = h .bounds ++ (bound t (x .past .clock) (length (x .waiting)) ∷ []);
-        going = offer-goes t f x (h .bounds) q fits few (h .going);
-        order =
-            sym (append-assoc (requestsOf t (x .past .pairs)) (x .waiting) (q ∷ []))
-            ∙ ap (λ rs. rs ++ (q ∷ [])) (h .order)
-            ∙ sym (map-append (λ a. a .request) (r .accepted) (a ∷ []));
-        met =
-            rw (map-append (closingBound t) (r .accepted) (a ∷ []), at-bound)
-            (one-asked (firstsOf x) (map (closingBound t) (r .accepted)) (bound t (x .past .clock) (length (x .waiting))) (h .bounds) (h .met));
-      })
+        going = offer-goes t f kd x xs q n (length (x .waiting) + passings) fits low-rank (omega arith) (h .going);
+        order = more-order x all (acceptedAt k q) (h .order);
+        met = more-met (firstsOf t kd x) all xs (acceptedAt k q) n (joins k q n .bound) at-bound (h .met);
+      }
 
-  pub offer-prescribed : (r : Run) (k : Prescribed) (q : Request) → AsPrescribed r k → AsPrescribed (called r (offer q)) (followed t k (offer q))
-  offer-prescribed r k q h = by (requestFits t q) (ltb (length (k .course .waiting)) 16) refl refl
-    where
-      a : Accepted
-      a = record { request = q; ticks = length (r .words); ahead = length (held (r .controller)) }
-
-      is-offer : offerOf (r .controller) q ≡ refusing c t is f (r .controller) (k .course .waiting) q
-      is-offer =
-          let at = h .clock in
-          let low = h .limit in
-          offer-is c t is f (r .controller) (k .course) (h .bounds) q (h .represents) (h .going) (omega arith)
-
-      by : (b d : Bool) → requestFits t q ≡ b → ltb (length (k .course .waiting)) 16 ≡ d
-          → AsPrescribed (called r (offer q)) (cond (b && d) (record { words = k .words; course = laid.queued (k .course) q }) k)
-      by true true e g = taken r k q h e (ltb-true (length (k .course .waiting)) 16 g)
-      by true false e g = rw (is-offer, e, g, nothing-added 27 a (r .accepted)) h
-      by false d e g = rw (is-offer, e, nothing-added 26 a (r .accepted)) h
-
-  pub all-prescribed : (r : Run) (k : Prescribed) (calls : List Call) → AsPrescribed r k → AsPrescribed (runFrom r calls) (prescribedFrom t k calls)
-  all-prescribed r k [] h = h
-  all-prescribed r k (tick ∷ calls) h = all-prescribed (called r tick) (followed t k tick) calls (tick-prescribed r k h)
-  all-prescribed r k (offer q ∷ calls) h = all-prescribed (called r (offer q)) (followed t k (offer q)) calls (offer-prescribed r k q h)
+  pub start-upheld : Upheld (record { words = []; course = laid.start }) [] []
+  start-upheld =
+      record { past = refl; clock = refl; limit = omega arith; sound = refl; going = start-goes t f kd; order = refl; met = refl }

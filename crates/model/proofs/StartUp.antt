@@ -1,4 +1,4 @@
--- The start-up: each of its pairs opens no later than the paper's schedule, 0, RSC, 2 RSC and 2 RSC + REFC. Assumes nothing.
+-- The start-up: each of its pairs opens no later than the paper's schedule, 0, RSC, 2 RSC and 2 RSC + REFC.
 use Prim.Native.Nat.{ℕ, _+_, _-_, _*_, _≤_, _<_}
 use mathlib.Core.Path.{_≡_, refl, sym, ap, _∙_}
 use mathlib.Core.Bool.{Bool, true, false, cond, not, true≢false, false≢true}
@@ -33,7 +33,8 @@ Waits t p o k limit = (opening t p (some o) ≡ some o) ⊎ ((opening t p (some 
 waits : (t : Timing) (p : Past) (o : Operation) (k limit : ℕ) → (limit ≤ k → breachless t p (pairOf t o) ≡ true) → Waits t p o k limit
 waits t p o k limit h = by (breachless t p (pairOf t o)) (leb limit k) refl refl
   where
-    by : (b c : Bool) → breachless t p (pairOf t o) ≡ b → leb limit k ≡ c → (cond b (some o) none ≡ some o) ⊎ ((cond b (some o) none ≡ none) × (k < limit))
+    by : (b c : Bool) → breachless t p (pairOf t o) ≡ b → leb limit k ≡ c
+        → (cond b (some o) none ≡ some o) ⊎ ((cond b (some o) none ≡ none) × (k < limit))
     by true c e l = inl refl
     by false true e l = absurd (true≢false (sym (h (leb-true limit k l)) ∙ e))
     by false false e l = inr (refl, leb-false limit k l)
@@ -45,6 +46,7 @@ isRegular (Regular a3) = true
 isRegular (Extended v) = false
 isRegular Refresh = false
 
+-- the pins of the regular mode that the proofs ask for
 pub record RegularPins (f s : ℕ) : Type 0 where
   pub rda : rda f ≡ true
   pub closes : lal s ≡ false
@@ -63,9 +65,11 @@ regular-pins t f s a3 e =
     go false false x h = absurd (false≢true h)
 
 module _ (t : Timing) (f : Figures t) where
+  -- the extended mode at clock 0, as a closed pair
   abbrev pub extended : ClosedPair
   extended = pairAt t 0 (Extended 0)
 
+  -- the regular mode that opened at g, as a closed pair
   abbrev pub regular : ℕ → ClosedPair
   regular g = pairAt t g (Regular false)
 
@@ -86,11 +90,24 @@ module _ (t : Timing) (f : Figures t) where
       may h =
           let o : Ordered k (extended ∷ []) = (omega arith, tt) in
           let o₁ : Ordered (k + 1 - 1) (extended ∷ []) = (omega arith, tt) in
-          rw
-          (breach-is t free k (extended ∷ []) 0xA0000 (omega arith, o), breach-is t (pair 0xA0000) (k + 1) (extended ∷ []) mrs (omega arith, o₁, refl), mode-closes t (summary (t .four) (extended ∷ [])) (k + 1) 0xA0000 mrs refl (record { sound = written .0; closes = pins .closes; rda = refl; read = refl; write = refl; mode = inr (omega arith); refresh = inl refl }))
+          rw (
+            breach-is t free k (extended ∷ []) 0xA0000 (omega arith, o),
+            breach-is t (pair 0xA0000) (k + 1) (extended ∷ []) mrs (omega arith, o₁, refl),
+            mode-closes t (summary (t .four) (extended ∷ [])) (k + 1) 0xA0000 mrs refl
+                (record {
+                  sound = written .0;
+                  closes = pins .closes;
+                  rda = refl;
+                  read = refl;
+                  write = refl;
+                  mode = inr (omega arith);
+                  refresh = inl refl;
+                }),
+          )
 
   -- the two refreshes, after a regular mode that opened at g
   module _ (g : ℕ) (early : 2 ≤ g) (late : g ≤ t .rsc) where
+    -- both modes, newest first
     abbrev pub modes : List ClosedPair
     modes = regular g ∷ extended ∷ []
 
@@ -114,7 +131,8 @@ module _ (t : Timing) (f : Figures t) where
         let shorter = f .rsc .1 in
         let ps = pairAt t e Refresh ∷ modes in
         waits t (idle k ps) Refresh k (2 * t .rsc + t .refc)
-        (λ h. refresh-opens t ps k (omega arith, (omega arith, (omega arith, tt))) (by-gaps t ps k (omega arith, tt)) (by-gaps t ps (k + 1) (omega arith, tt))
+        (λ h. refresh-opens t ps k (omega arith, (omega arith, (omega arith, tt))) (by-gaps t ps k (omega arith, tt))
+        (by-gaps t ps (k + 1) (omega arith, tt))
         (record {
           mode = rw (pins .closes) (inr (omega arith));
           refresh = inr (omega arith);

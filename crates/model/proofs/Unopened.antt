@@ -1,13 +1,13 @@
--- The requests that have not opened, each with the bound of its closing word, and what an accepted offer adds. Assumes nothing.
-use Prim.Native.Nat.{ℕ, _+_, _*_, _≤_, _<_, max}
-use mathlib.Core.Path.{_≡_, refl, sym, subst}
+-- What holds of the requests that have not opened holds of those that are left when one opens, and with one more behind that was accepted:
+-- at most w others open before it, and its bound is that of demand 3 with w for q.
+use Prim.Native.Nat.{ℕ, zero, suc, _+_, _*_, _≤_, _<_, max}
+use mathlib.Core.Path.{_≡_, refl}
 use mathlib.Core.Bool.{Bool, true, false, cond}
-use mathlib.Core.List.{List, [], _∷_, _++_}
-use mathlib.Core.Logic.{_⊎_, inl, inr, ⊎-elim}
+use mathlib.Core.List.{List, [], _∷_, _++_, map}
+use mathlib.Core.Logic.{inl, inr, ⊎-elim}
 use native.Mathlib.Omega.{arith}
-use native.Mathlib.Nat.{add-mul, zero-mul, suc-mul, one-mul, mul-le-mul, mul-le-mul-right, le-trans}
+use native.Mathlib.Nat.{add-mul, one-mul, mul-le-mul, mul-le-mul-right, le-trans}
 use borrow.Author.Tests.{leb-true, leb-false}
-use lib.ListN.{length}
 use lib.Dec.{leb}
 use Rattle.config.specs.declared.Timing.{Timing}
 use Rattle.writing.specs.Writing.{requestFits}
@@ -15,58 +15,53 @@ use Rattle.command.specs.declared.operation.Request.{Request}
 use Rattle.rules.specs.History.{ClosedPair}
 use Rattle.rules.specs.Rules.{wasRead, wasWrite, wasRefresh}
 use Rattle.rules.proofs.Newest.{Ordered, latest, latest-cons}
+use Rattle.queue.specs.Place.{without}
 use Rattle.model.proofs.Figures.{Figures}
 use Rattle.model.proofs.Candidates.{AllFit}
 use Rattle.model.proofs.InTime.{lastRef}
-use Rattle.model.proofs.Prompt.{Meets, behind, Close, meets-sooner, one-more}
+use Rattle.model.proofs.Prompt.{Awaited, requests, lower, Meets, Near, Close, meets-sooner, one-more}
 use Rattle.model.proofs.Soonest.{soonest}
-use Rattle.model.proofs.Punctual.{Same, Punctual}
+use Rattle.model.proofs.Punctual.{Queue}
 use Rattle.model.proofs.Offers.{accepted-meets}
 
-pub record Queue (t : Timing) (ps : List ClosedPair) (k : ℕ) (rs : List Request) (Bs : List ℕ) : Type 0 where
-  pub fit : AllFit t rs
-  pub same : Same rs Bs
-  pub near : Close k Bs
-  pub punctual : Punctual t ps k Bs
-
--- the bound that an offer at clock c with q waiting gets, one more for the closing word
+-- the bound that an offer at clock c gets if w others open before it at most, one more for the closing word
 abbrev pub bound : Timing → ℕ → ℕ → ℕ
-bound t c q = max c 201 + (q + 1) * t .spacing + t .rc + t .refc + 1
+bound t c w = max c 201 + (w + 1) * t .spacing + t .rc + t .refc + 1
 
-fit-more : (t : Timing) (rs : List Request) (r : Request) → AllFit t rs → requestFits t r ≡ true → AllFit t (rs ++ (r ∷ []))
-fit-more t [] r a h = (h, tt)
-fit-more t (q ∷ rs) r a h = (a .0, fit-more t rs r (a .1) h)
+fit-more : (t : Timing) (xs : List Awaited) (x : Awaited) → AllFit t (requests xs) → requestFits t (x .request) ≡ true
+    → AllFit t (requests (xs ++ (x ∷ [])))
+fit-more t [] x a h = (h, tt)
+fit-more t (y ∷ xs) x a h = (a .0, fit-more t xs x (a .1) h)
 
-same-more : (rs : List Request) (Bs : List ℕ) (r : Request) (B : ℕ) → Same rs Bs → Same (rs ++ (r ∷ [])) (Bs ++ (B ∷ []))
-same-more [] [] r B s = tt
-same-more [] (C ∷ Bs) r B s = absurd s
-same-more (q ∷ rs) [] r B s = absurd s
-same-more (q ∷ rs) (C ∷ Bs) r B s = same-more rs Bs r B s
+close-more : (k : ℕ) (xs : List Awaited) (x : Awaited) → Close k xs → Near k (x .bound) → Close k (xs ++ (x ∷ []))
+close-more k [] x c h = (h, tt)
+close-more k (y ∷ xs) x c h = (c .0, close-more k xs x (c .1) h)
 
-same-length : (rs : List Request) (Bs : List ℕ) → Same rs Bs → length Bs ≡ length rs
-same-length [] [] s = refl
-same-length [] (C ∷ Bs) s = absurd s
-same-length (q ∷ rs) [] s = absurd s
-same-length (q ∷ rs) (C ∷ Bs) s =
-    let e = same-length rs Bs s in
-    omega arith
-
-close-more : (k : ℕ) (Bs : List ℕ) (B : ℕ) → Close k Bs → (B ≤ k + 206) ⊎ (B ≤ 407) → Close k (Bs ++ (B ∷ []))
-close-more k [] B c h = (h, tt)
-close-more k (C ∷ Bs) B c h = (c .0, close-more k Bs B (c .1) h)
-
-pub close-later : (j k : ℕ) (Bs : List ℕ) → j ≤ k → Close j Bs → Close k Bs
+-- bounds that are near stay near
+pub close-later : (j k : ℕ) (xs : List Awaited) → j ≤ k → Close j xs → Close k xs
 close-later j k [] h c = tt
-close-later j k (B ∷ Bs) h c = (⊎-elim (λ n. inl (omega arith)) inr (c .0), close-later j k Bs h (c .1))
+close-later j k (x ∷ xs) h c = (⊎-elim (λ n. inl (omega arith)) inr (c .0), close-later j k xs h (c .1))
 
-behind-is : (t : Timing) (F : ℕ) (Bs : List ℕ) → behind t F Bs ≡ F + length Bs * t .spacing
-behind-is t F [] =
-    let z = zero-mul (t .spacing) in
-    omega arith
-behind-is t F (B ∷ Bs) =
-    let e = behind-is t (F + t .spacing) Bs in
-    let m = suc-mul (length Bs) (t .spacing) in
-    omega arith
+-- one that opens is no longer looked at
+close-lower : (k : ℕ) (xs : List Awaited) → Close k xs → Close k (map lower xs)
+close-lower k [] c = tt
+close-lower k (x ∷ xs) c = (c .0, close-lower k xs (c .1))
+
+-- bounds stay near when one opens
+pub close-without : (k p : ℕ) (xs : List Awaited) → Close k xs → Close k (map lower (without p xs))
+close-without k p [] c = tt
+close-without k zero (x ∷ xs) c = close-lower k xs (c .1)
+close-without k (suc p) (x ∷ xs) c = (c .0, close-without k p xs (c .1))
+
+fit-lower : (t : Timing) (xs : List Awaited) → AllFit t (requests xs) → AllFit t (requests (map lower xs))
+fit-lower t [] c = tt
+fit-lower t (x ∷ xs) c = (c .0, fit-lower t xs (c .1))
+
+-- requests stay in range when one opens
+pub fit-without : (t : Timing) (p : ℕ) (xs : List Awaited) → AllFit t (requests xs) → AllFit t (requests (map lower (without p xs)))
+fit-without t p [] c = tt
+fit-without t zero (x ∷ xs) c = fit-lower t xs (c .1)
+fit-without t (suc p) (x ∷ xs) c = (c .0, fit-without t p xs (c .1))
 
 -- a closing word of an ordered history is before the clock that bounds it
 latest-before : (g : ClosedPair → Bool) (k M : ℕ) → k ≤ M + 1 → (ps : List ClosedPair) → Ordered k ps → latest g ps ≤ M
@@ -81,22 +76,23 @@ latest-before g k M h (p ∷ ps) o =
         omega arith
     go false older = older
 
--- with c ticks accepted and q waiting, some of which may have opened; k is c, or one more in a pair
-module _ (t : Timing) (f : Figures t) (ps : List ClosedPair) (k c q : ℕ) (o : Ordered k ps) (low : c ≤ k) (high : k ≤ c + 1) (few : q < 16) where
+-- with c ticks accepted, where w others open before at most; k is c, or one more in a pair
+module _ (t : Timing) (f : Figures t) (ps : List ClosedPair) (k c w : ℕ) (o : Ordered k ps) (low : c ≤ k) (high : k ≤ c + 1)
+    (few : w < 24) where
   -- S for each of them
   abbrev m : ℕ
-  m = q * t .spacing
+  m = w * t .spacing
 
-  m-bound : m ≤ 120
-  m-bound = mul-le-mul {n₂ = 15} {m₂ = 8} (omega arith) (f .spacing)
+  m-bound : m ≤ 184
+  m-bound = mul-le-mul {n₂ = 23} {m₂ = 8} (omega arith) (f .spacing)
 
-  bound-is : bound t c q ≡ max c 201 + (m + t .spacing) + t .rc + t .refc + 1
-  bound-is = rw (add-mul q 1 (t .spacing), one-mul (t .spacing))
+  bound-is : bound t c w ≡ max c 201 + (m + t .spacing) + t .rc + t .refc + 1
+  bound-is = rw (add-mul w 1 (t .spacing), one-mul (t .spacing))
 
-  near-bound : (bound t c q ≤ k + 206) ⊎ (bound t c q ≤ 407)
+  near-bound : Near k (bound t c w)
   near-bound = by (leb c 201) refl
     where
-      spare : bound t c q ≤ max c 201 + 198
+      spare : bound t c w ≤ max c 201 + 262
       spare =
           let b = m-bound in
           let s = f .spacing in
@@ -104,7 +100,7 @@ module _ (t : Timing) (f : Figures t) (ps : List ClosedPair) (k c q : ℕ) (o : 
           let refc = f .refc .1 in
           rw bound-is (omega arith)
 
-      by : (x : Bool) → leb c 201 ≡ x → (bound t c q ≤ k + 206) ⊎ (bound t c q ≤ 407)
+      by : (x : Bool) → leb c 201 ≡ x → Near k (bound t c w)
       by true e =
           let h = leb-true c 201 e in
           inr (le-trans spare (omega arith))
@@ -112,25 +108,25 @@ module _ (t : Timing) (f : Figures t) (ps : List ClosedPair) (k c q : ℕ) (o : 
           let h = leb-false c 201 e in
           inl (le-trans spare (omega arith))
 
-  meets-bound : (Bs : List ℕ) → length Bs ≤ q → Meets t (lastRef ps) (behind t (soonest t ps k) Bs) (bound t c q)
-  meets-bound Bs h =
+  meets-bound : (n : ℕ) → n ≤ w → Meets t (lastRef ps) (soonest t ps k + n * t .spacing) (bound t c w)
+  meets-bound n h =
       let F = soonest t ps k in
       let M = max c 201 in
       let now : k ≤ M + 1 = omega arith in
       let l = mul-le-mul-right (t .spacing) h in
-      let sooner : behind t F Bs ≤ F + m = subst (λ n. n ≤ F + m) (sym (behind-is t F Bs)) (omega arith) in
-      meets-sooner t (lastRef ps) (F + m) (behind t F Bs) (bound t c q) sooner
-      (rw bound-is
-      (accepted-meets t f ps k M m now (omega arith) (latest-before wasRead k M now ps o) (latest-before wasWrite k M now ps o) (latest-before wasRefresh k M now ps o) m-bound))
+      let sooner : F + n * t .spacing ≤ F + m = omega arith in
+      let read = latest-before wasRead k M now ps o in
+      let write = latest-before wasWrite k M now ps o in
+      let refresh = latest-before wasRefresh k M now ps o in
+      let meets = accepted-meets t f ps k M m now (omega arith) read write refresh m-bound in
+      meets-sooner t (lastRef ps) (F + m) (F + n * t .spacing) (bound t c w) sooner (rw bound-is meets)
 
-  pub queue-offer : (rs : List Request) (Bs : List ℕ) (r : Request) → length rs ≤ q → requestFits t r ≡ true → Queue t ps k rs Bs
-      → Queue t ps k (rs ++ (r ∷ [])) (Bs ++ (bound t c q ∷ []))
-  queue-offer rs Bs r l h a =
+  pub queue-offer : (xs : List Awaited) (r : Request) (n : ℕ) → n ≤ w → requestFits t r ≡ true → Queue t ps k xs
+      → Queue t ps k (xs ++ (record { request = r; rank = n; bound = bound t c w } ∷ []))
+  queue-offer xs r n l h a =
+      let x : Awaited = record { request = r; rank = n; bound = bound t c w } in
       record {
-        fit = fit-more t rs r (a .fit) h;
-        same = same-more rs Bs r (bound t c q) (a .same);
-        near = close-more k Bs (bound t c q) (a .near) near-bound;
-        punctual =
-            one-more t (lastRef ps) (soonest t ps k) (bound t c q) Bs (a .punctual)
-            (meets-bound Bs (subst (λ n. n ≤ q) (sym (same-length rs Bs (a .same))) l));
+        fit = fit-more t xs x (a .fit) h;
+        near = close-more k xs x (a .near) near-bound;
+        punctual = one-more t (lastRef ps) (soonest t ps k) x xs (a .punctual) (meets-bound n l);
       }

@@ -5,6 +5,7 @@ use mathlib.Core.Path.{_≡_}
 use mathlib.Core.List.{List, _∷_, _++_, map}
 use lib.ListN.{length, getD}
 use lib.Dec.{ltb}
+use Rattle.basics.specs.Numbers.{limit}
 use Rattle.basics.specs.Outcome.{value, refused, require}
 use Rattle.config.specs.Configuration.{timingOf}
 use Rattle.config.specs.declared.Config.{Config}
@@ -12,7 +13,8 @@ use Rattle.config.specs.declared.Timing.{Timing}
 use Rattle.writing.specs.Writing.{requestFits}
 use Rattle.command.specs.declared.operation.Request.{Request}
 use Rattle.rules.specs.Verdict.{accepted, judge}
-use Rattle.model.specs.Runs.{Call, Accepted, Run, run, prescribed, pairsOf, requestsOf, firstWords, latestStart}
+use Rattle.rules.specs.Turns.{pairsOf, requestsOf}
+use Rattle.model.specs.Runs.{Call, Accepted, Run, run, prescribed, firstWords, latestStart}
 use Rattle.controller.specs.Steps.{held, offerOf, tickOf}
 
 -- the requests that were put out: those of the closed read and write pairs
@@ -44,9 +46,10 @@ pub record Holds (t : Timing) (calls : List Call) (r : Run) : Type 0 where
   pub in-order : InOrder t r
   pub prompt : Prompt t calls r
   -- whatever is offered next is refused by 26 if a field is out of range, else by 27 if sixteen wait, and otherwise accepted
-  pub offer-refused : (q : Request) → offerOf (r .controller) q .outcome ≡ require (requestFits t q) 26 (require (ltb (length (held (r .controller))) 16) 27 (value tt))
+  pub offer-refused : (q : Request)
+      → offerOf (r .controller) q .outcome ≡ require (requestFits t q) 26 (require (ltb (length (held (r .controller))) 16) 27 (value tt))
   -- the next tick is refused by 24 if 16,777,216 words are given, and otherwise accepted
-  pub tick-refused : tickOf (r .controller) .outcome ≡ require (ltb (length (r .words)) 16777216) 24 (value tt)
+  pub tick-refused : tickOf (r .controller) .outcome ≡ require (ltb (length (r .words)) limit) 24 (value tt)
 
 -- the theorem
 pub record Demand3 : Type 0 where

@@ -5,16 +5,15 @@ use mathlib.Core.List.{List, [], _∷_, _++_}
 use mathlib.Core.Option.{Option, none, some}
 use lib.ListN.{length}
 use lib.Dec.{ltb}
+use Rattle.basics.specs.Numbers.{limit}
 use Rattle.basics.specs.Outcome.{Outcome, value, refused}
 use Rattle.config.specs.declared.Config.{Config}
 use Rattle.config.specs.declared.Timing.{Timing}
-use Rattle.reading.specs.Reading.{operationOf}
 use Rattle.writing.specs.Writing.{requestFits}
 use Rattle.command.specs.declared.operation.Request.{Request}
 use Rattle.command.specs.declared.operation.Operation.{Operation}
 use Rattle.command.specs.declared.operation.Operation.the-variants.{Access, Regular, Extended, Refresh}
-use Rattle.rules.specs.History.{ClosedPair, nothing, pastFrom}
-use Rattle.rules.specs.Rules.{wasAccess}
+use Rattle.rules.specs.Turns.{pairsOf, starts}
 use Rattle.model.specs.Laid as laid
 use Rattle.controller.specs.States.{fresh}
 use Rattle.controller.specs.Steps.{held, offerOf, tickOf}
@@ -67,43 +66,27 @@ pub record Prescribed : Type 0 where
   pub words : List ℕ
   pub course : laid.Course
 
--- one call more: an offer is accepted if its request is in range and fewer than sixteen wait, a tick below clock 16,777,216
-abbrev pub followed : Timing → Prescribed → Call → Prescribed
-followed t k (offer q) =
+-- one call more, where a tick with no pair open chooses the request at place i: an offer is accepted if its request is in range and fewer
+-- than sixteen wait, a tick below clock 16,777,216
+abbrev pub followedAt : ℕ → Timing → Prescribed → Call → Prescribed
+followedAt i t k (offer q) =
     cond (requestFits t q && ltb (length (k .course .waiting)) 16) (record { words = k .words; course = laid.queued (k .course) q }) k
-followed t k tick =
-    let a = laid.tick t (k .course) in
-    cond (ltb (length (k .words)) 16777216) (record { words = k .words ++ (a .word ∷ []); course = a .after }) k
+followedAt i t k tick =
+    let a = laid.tickAt i t (k .course) in
+    cond (ltb (length (k .words)) limit) (record { words = k .words ++ (a .word ∷ []); course = a .after }) k
+
+-- one call more, of the controller that opens the oldest request
+abbrev pub followed : Timing → Prescribed → Call → Prescribed
+followed t k x = followedAt 0 t k x
 
 -- a list of calls more
 abbrev pub prescribedFrom : Timing → Prescribed → List Call → Prescribed
 prescribedFrom t k [] = k
 prescribedFrom t k (x ∷ xs) = prescribedFrom t (followed t k x) xs
 
--- the same from power-up
+-- what is laid down for a list of calls from power-up
 abbrev pub prescribed : Timing → List Call → Prescribed
 prescribed t calls = prescribedFrom t (record { words = []; course = laid.start }) calls
-
--- the closed pairs of a trace, newest first
-abbrev pub pairsOf : List ℕ → List ClosedPair
-pairsOf words = pastFrom nothing words .pairs
-
--- the request that an operation is, if it is one
-abbrev pub requestOf : Operation → List Request
-requestOf (Access r) = r ∷ []
-requestOf (Regular a3) = []
-requestOf (Extended v) = []
-requestOf Refresh = []
-
--- the requests of the closed read and write pairs, oldest first, each as its pair is read
-abbrev pub requestsOf : Timing → List ClosedPair → List Request
-requestsOf t [] = []
-requestsOf t (p ∷ ps) = requestsOf t ps ++ requestOf (operationOf t (p .first) (p .second))
-
--- the clocks of the first words of the read and write pairs, oldest first
-abbrev pub starts : List ClosedPair → List ℕ
-starts [] = []
-starts (p ∷ ps) = starts ps ++ cond (wasAccess p) (p .start ∷ []) []
 
 -- an operation is a request
 abbrev pub isAccess : Operation → Bool

@@ -3,6 +3,7 @@ use Prim.Native.Nat.{ℕ, _+_, _-_}
 use mathlib.Core.Bool.{false}
 use mathlib.Core.List.{List, [], _∷_, _++_}
 use lib.ListN.{replicate}
+use Rattle.command.specs.Pairs.{desl}
 use Rattle.command.specs.declared.operation.Request.{Request}
 
 -- a pair at a clock
@@ -17,8 +18,8 @@ pair k f s = record { clock = k; first = f; second = s }
 
 -- the words from a clock on: the pairs at their clocks, DESL in the gaps, and some DESL behind
 abbrev pub words : ℕ → List At → ℕ → List ℕ
-words k [] more = replicate more 0xC0000
-words k (p ∷ ps) more = replicate (p .clock - k) 0xC0000 ++ (p .first ∷ p .second ∷ words (p .clock + 2) ps more)
+words k [] more = replicate more desl
+words k (p ∷ ps) more = replicate (p .clock - k) desl ++ (p .first ∷ p .second ∷ words (p .clock + 2) ps more)
 
 -- a read at clock k, with b on BA0 to BA2, A0 to A13 low, column 0
 abbrev pub readAt : ℕ → ℕ → At

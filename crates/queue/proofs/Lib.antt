@@ -1,2 +1,3 @@
 -- What the loops over the waiting requests need.
+pub mod Closing
 pub mod Waiting

@@ -1,8 +1,8 @@
--- The requests that wait: whether they fit, and what is left of them once the oldest has left (RULES 8.2).
-use Prim.Native.Nat.{ℕ, zero, suc}
+-- The requests that wait: whether they fit, and which is at a place (RULES 8.2).
+use Prim.Native.Nat.{ℕ}
 use mathlib.Core.Bool.{Bool, true, false, _&&_}
-use mathlib.Core.List.{List, [], _∷_, _++_}
-use lib.ListN.{take, drop}
+use mathlib.Core.List.{List, [], _∷_}
+use lib.ListN.{getD}
 use Rattle.config.specs.declared.Timing.{Timing}
 use Rattle.writing.specs.Writing.{requestFits}
 use Rattle.command.specs.declared.operation.Request.{Request}
@@ -16,8 +16,6 @@ abbrev pub allFit : Timing → List Request → Bool
 allFit t [] = true
 allFit t (r ∷ rs) = requestFits t r && allFit t rs
 
--- the oldest of the first n has left: each other of them is one place further on, and the last of their places is vacant; where n is 0,
--- nothing changes
-abbrev pub movedUp : ℕ → List Request → List Request
-movedUp zero rs = rs
-movedUp (suc n) rs = take n (drop 1 rs) ++ (vacant ∷ drop (suc n) rs)
+-- the request at a place; a vacant one where there is no such place
+abbrev pub requestAt : ℕ → List Request → Request
+requestAt p rs = getD rs p vacant

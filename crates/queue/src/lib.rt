@@ -6,7 +6,8 @@ ghost use mathlib.Core.Path.{_≡_};
 ghost use mathlib.Core.Bool.{cond};
 ghost use Prim.Native.Nat.{_-_, min};
 ghost use lib.ListN.{take};
-ghost use Rattle.queue.specs.Queue.{allFit, movedUp};
+ghost use Rattle.queue.specs.Queue.{vacant, allFit, requestAt};
+ghost use Rattle.queue.specs.Place.{closedUp};
 
 // A place where no request waits.
 pub const VACANT: Request = Request {
@@ -40,37 +41,50 @@ pub fn waiting_fit(timing: Timing, waiting: [Request; 16], count: u32) -> bool
     true
 }
 
-// The oldest has left: each other is one place further on. The work goes by how many wait.
-fn moved_up(waiting: [Request; 16], count: u32) -> [Request; 16]
-    ensures { λ r. ⌜ r ≡ movedUp count waiting ⌝ }
+// The request at a place; a vacant one where there is no such place.
+pub fn request_at(waiting: [Request; 16], place: u32) -> Request
+    ensures { λ r. ⌜ r ≡ requestAt place waiting ⌝ }
 {
-    if count == 0 {
+    if place < 16 {
+        waiting[place as usize]
+    } else {
+        VACANT
+    }
+}
+
+// The one at a place has left: each behind it is one place further on. The work goes by how many wait behind it. Where the place is not one
+// that is counted, none has left.
+fn closed_up(waiting: [Request; 16], count: u32, place: u32) -> [Request; 16]
+    ensures { λ r. ⌜ r ≡ closedUp vacant place count waiting ⌝ }
+{
+    let counted = lesser(count, 16);
+    if counted <= place {
         return waiting;
     }
-    let last = lesser(count, 16) as usize - 1;
+    let last = counted as usize - 1;
     let mut moved = waiting;
-    let mut i: usize = 0;
+    let mut i = place as usize;
     while i < last {
-        let request = waiting[i + 1];
-        moved[i] = request;
+        let behind = moved[i + 1];
+        moved[i] = behind;
         i += 1;
     }
     moved[last] = VACANT;
     moved
 }
 
-// The requests, once the oldest has left or none has.
-pub fn requests_left(leaves: bool, waiting: [Request; 16], count: u32) -> [Request; 16]
-    ensures { λ r. ⌜ r ≡ cond leaves (movedUp count waiting) waiting ⌝ }
+// The requests, once the one at a place has left or none has.
+pub fn requests_left(leaves: bool, waiting: [Request; 16], count: u32, place: u32) -> [Request; 16]
+    ensures { λ r. ⌜ r ≡ cond leaves (closedUp vacant place count waiting) waiting ⌝ }
 {
     if leaves {
-        moved_up(waiting, count)
+        closed_up(waiting, count, place)
     } else {
         waiting
     }
 }
 
-// How many wait, once the oldest has left or none has; 0 stays 0.
+// How many wait, once one has left or none has; 0 stays 0.
 pub fn count_left(leaves: bool, count: u32) -> u32
     ensures { λ r. ⌜ r ≡ cond leaves (count - 1) count ⌝ }
 {

@@ -28,7 +28,7 @@ laneBy false false true = 2
 laneBy false true true = 1
 laneBy false false false = 0
 
--- the same by the BL of a sheet
+-- how many words a lane of a write writes, by its two pins and the BL of a sheet (RULES 2.5)
 abbrev pub laneOf : Timing → Bool → Bool → ℕ
 laneOf t vw0 vw1 = laneBy (eqb (t .bl) 2) vw0 vw1
 

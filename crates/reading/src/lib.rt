@@ -27,7 +27,8 @@ use config::TimingAnswer;
 ghost use mathlib.Core.Path.{_≡_};
 ghost use mathlib.Core.Bool.{cond};
 ghost use Rattle.command.specs.Pins.{pins};
-ghost use Rattle.reading.specs.Reading.{laneBy, accessOf, modeBy, operationOf, registerFits, modeWrong, laneReserved, soundPair, readPair};
+ghost use Rattle.reading.specs.Reading.{laneBy, accessOf, modeBy, operationOf, registerFits};
+ghost use Rattle.reading.specs.Reading.{modeWrong, laneReserved, soundPair, readPair};
 ghost use Rattle.reading.specs.Answers.{readOutcome};
 
 // The operation, or the refusal.

@@ -1,5 +1,5 @@
 -- Each rule is kept on a timing that is no stricter to it. A spacing that is no less than a count is no less than a smaller one; so a test
--- that fails for the one fails for the other, also behind a guard, beside another such test, and of every earlier pair. Assumes nothing.
+-- that fails for the one fails for the other, also behind a guard, beside another such test, and of every earlier pair.
 use Prim.Native.Nat.{ℕ, _+_, _-_, _*_, _/_, _≤_, min}
 use mathlib.Core.Path.{_≡_, refl, _∙_}
 use mathlib.Core.Bool.{Bool, true, false, not, _&&_, _||_, cond, true≢false}
@@ -48,7 +48,8 @@ same : {x y : Bool} → y ≡ x → Fails x y
 same q e = q ∙ e
 
 -- of every earlier pair
-any-earlier : {f g : ClosedPair → Bool} (ps : List ClosedPair) → ((p : ClosedPair) → Fails (f p) (g p)) → Fails (earlier f ps) (earlier g ps)
+any-earlier : {f g : ClosedPair → Bool} (ps : List ClosedPair) → ((p : ClosedPair) → Fails (f p) (g p))
+    → Fails (earlier f ps) (earlier g ps)
 any-earlier [] h = λ e. refl
 any-earlier (p ∷ ps) h = beside _ (h p) (any-earlier ps h)
 

@@ -1,5 +1,5 @@
 -- A trace that is accepted by steps, or that a walk comes to the end of, has at most 16,777,216 words: a word passes only below that clock,
--- and moves the clock one on. Assumes nothing.
+-- and moves the clock one on.
 use Prim.Native.Nat.{ℕ, zero, suc, _+_, _≤_, _<_}
 use mathlib.Core.Path.{_≡_, refl}
 use mathlib.Core.List.{List, [], _∷_}
@@ -8,9 +8,9 @@ use lib.ListN.{length, getD}
 use Rattle.basics.specs.Outcome.{Outcome, value, refused}
 use Rattle.basics.proofs.Outcomes.{refused-value}
 use Rattle.rules.specs.Verdict.{Judgement, accepted, breach}
-use Rattle.protocol.specs.Steps.{stepOf}
-use Rattle.protocol.specs.Refinement.{follow, stepping}
-use Rattle.protocol.specs.declared.checker.Checker.{Checker}
+use Rattle.checker.specs.Steps.{stepOf}
+use Rattle.checker.specs.Refinement.{follow, stepping}
+use Rattle.checker.specs.declared.checker.Checker.{Checker}
 use Rattle.walks.specs.Walk.{Reached, ended, ofWord, unless, walking, stopOf}
 use Rattle.walks.proofs.Walk.{keeps-step, move-case}
 

@@ -1,5 +1,5 @@
--- The theorem of specs/Dependence. No number is found at a word exactly where every rule is kept there; and each rule is, by the timing that
--- its row has. Assumes nothing.
+-- The theorem of specs/Dependence. No number is found at a word exactly where every rule is kept there; and each rule is, by the timing
+-- that its row has.
 use Prim.Native.Nat.{ℕ, zero, suc}
 use mathlib.Core.Path.{_≡_, refl, _∙_, ap}
 use mathlib.Core.Bool.{Bool, true, false}

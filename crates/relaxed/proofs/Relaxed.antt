@@ -1,5 +1,5 @@
 -- The theorem of specs/Relaxed: the timing of the second sheet is no stricter to any rule, so the first is a witness for each. A trace that
--- steps or a walk accept is one that the whole check takes. Assumes nothing.
+-- steps or a walk accept is one that the whole check takes.
 use Prim.Native.Nat.{ℕ, _+_, _/_, _%_, _≤_, _<_}
 use mathlib.Core.Path.{_≡_, refl, sym, _∙_, ap}
 use mathlib.Core.List.{List}
@@ -13,12 +13,12 @@ use Rattle.config.specs.declared.Config.{Config}
 use Rattle.config.specs.declared.Timing.{Timing}
 use Rattle.words.specs.Words.{wordsOf}
 use Rattle.rules.specs.Verdict.{accepted, judge, checkOf, checkBytesOf}
-use Rattle.protocol.specs.Steps.{fresh}
-use Rattle.protocol.specs.Refinement.{stepping}
+use Rattle.checker.specs.Steps.{fresh}
+use Rattle.checker.specs.Refinement.{stepping}
 use Rattle.walks.specs.Walk.{ended, walking, stopOf}
 use Rattle.basics.proofs.Outcomes.{require-value}
 use Rattle.config.proofs.Accepted.{behind}
-use Rattle.protocol.proofs.Refinement.{refinement}
+use Rattle.checker.proofs.Refinement.{refinement}
 use Rattle.walks.proofs.Walk.{walk}
 use Rattle.relaxed.specs.Relaxed.{Relaxed, StillAccepted}
 use Rattle.relaxed.proofs.Rows.{passes}

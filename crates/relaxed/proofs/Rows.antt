@@ -1,6 +1,6 @@
--- Two sheets that agree in CL, BL, organisation and wiring; none of the second's counts is larger, and its D is no smaller. Then its timing is
--- no stricter than the first's to any rule but the twelfth, which reads W alone. For that one another timing may be the witness: W is larger
--- for a shorter period, where D is too. Assumes nothing.
+-- Two sheets that agree in CL, BL, organisation and wiring; none of the second's counts is larger, and its D is no smaller. Then its timing
+-- is no stricter than the first's to any rule but the twelfth, which reads W alone. For that one another timing may be the witness: W is
+-- larger for a shorter period, where D is too.
 use Prim.Native.Nat.{ℕ, _-_, _≤_}
 use mathlib.Core.Path.{_≡_, ap}
 use mathlib.Core.Bool.{cond}

@@ -6,8 +6,8 @@ use Rattle.basics.specs.Outcome.{value}
 use Rattle.config.specs.Configuration.{derived, timingOf, wiredOf}
 use Rattle.config.specs.declared.Config.{Config}
 use Rattle.rules.specs.Verdict.{accepted, checkOf, checkBytesOf}
-use Rattle.protocol.specs.Steps.{fresh}
-use Rattle.protocol.specs.Refinement.{stepping}
+use Rattle.checker.specs.Steps.{fresh}
+use Rattle.checker.specs.Refinement.{stepping}
 use Rattle.walks.specs.Walk.{ended, walking}
 
 -- two accepted sheets that agree in CL, BL, organisation, period and wiring; and the second, the slacker one, has none of the five counts
@@ -32,7 +32,7 @@ pub record StillAccepted : Type 0 where
   pub some : Relaxed (wiredOf 37 5 4 16 5000 3 3 2 7 19 8) (wiredOf 50 5 4 16 5000 2 2 1 6 18 8)
   -- by the whole check; a trace that is too long is accepted on neither
   pub check : (a b : Config) (words : List ℕ) → Relaxed a b → checkOf a words ≡ value accepted → checkOf b words ≡ value accepted
-  -- so of bytes
+  -- by the whole check of bytes
   pub check-bytes : (a b : Config) (bytes : List ℕ) → Relaxed a b
       → checkBytesOf a bytes ≡ value accepted → checkBytesOf b bytes ≡ value accepted
   -- by stepping from a fresh checker

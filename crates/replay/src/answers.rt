@@ -1,5 +1,7 @@
 // The lines that answers are written as.
 use basics::Refusal;
+use checker::Breach;
+use checker::Verdict;
 use command::Operation;
 use command::Request;
 use config::Config;
@@ -11,8 +13,6 @@ use counts::CountsAnswer;
 use duration::DurationAnswer;
 use libc::STDOUT_FILENO;
 use limits::LimitsAnswer;
-use protocol::Breach;
-use protocol::Verdict;
 use reading::ReadAnswer;
 use walks::Progress;
 use writing::WriteAnswer;

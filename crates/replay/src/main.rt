@@ -9,10 +9,10 @@ mod states;
 mod ticks;
 mod traces;
 
+use checker::Checker;
 use config::Config;
 use controller::Controller;
 use libc::STDERR_FILENO;
-use protocol::Checker;
 
 fn main() {
     let mut buffer = [0u8; 65537];

@@ -5,13 +5,14 @@ use crate::answers::five;
 use crate::answers::number;
 use crate::answers::sheet;
 use crate::answers::text;
+use checker::Checker;
 use command::Request;
 use controller::CallAnswer;
 use controller::Controller;
 use counts::CountsAnswer;
-use protocol::Checker;
 use scheduler::OpenPair;
 use stamps::Timestamps;
+use std::num::wrapping_add_u32;
 
 fn eight(clocks: [u32; 8]) {
     for i in 0..8 {
@@ -38,20 +39,21 @@ pub(crate) fn checker(checker: Checker) {
     text(b"checker");
     sheet(config);
     number(checker.clock);
-    number(checker.first);
+    number(checker.met);
     timestamps(stamps);
     number(checker.breach.clock);
     number(checker.breach.number);
     end();
 }
 
+// The number that stands for it in a script. None does for the last four places, which no call makes: they come out as 0 to 3.
 fn opened_number(opened: OpenPair) -> u32 {
     match opened {
         OpenPair::Nothing => 0,
         OpenPair::Extended => 1,
         OpenPair::Regular => 2,
         OpenPair::Refresh => 3,
-        OpenPair::Oldest => 4,
+        OpenPair::Waiting(place) => wrapping_add_u32(place, 4),
     }
 }
 

@@ -18,14 +18,6 @@ fn of_operation(kind: u32) -> usize {
     }
 }
 
-// The code and a controller, whose open pair is one of five.
-fn of_controller(opened: u32) -> usize {
-    if 4 < opened {
-        return 0;
-    }
-    132
-}
-
 // The words of the call at this index, its code among them; 0 where it is not listed.
 fn size(bytes: &[u8], at: usize) -> usize {
     let code = word(bytes, at, 0);
@@ -40,7 +32,7 @@ fn size(bytes: &[u8], at: usize) -> usize {
         7 => of_operation(word(bytes, at, 1)),
         9 | 103 | 104 | 105 | 106 => 1,
         101 => 37,
-        102 => of_controller(word(bytes, at, 13)),
+        102 => 132,
         _ => 0,
     }
 }

@@ -3,10 +3,10 @@ use crate::script::ahead;
 use crate::script::request_at;
 use crate::script::wired_at;
 use crate::script::word;
+use checker::Breach;
+use checker::Checker;
 use command::Request;
 use controller::Controller;
-use protocol::Breach;
-use protocol::Checker;
 use scheduler::OpenPair;
 use stamps::Timestamps;
 
@@ -40,7 +40,7 @@ pub(crate) fn checker_at(bytes: &[u8], at: usize) -> Checker {
     Checker {
         config: wired_at(bytes, at),
         clock: word(bytes, at, 11),
-        first: word(bytes, at, 12),
+        met: word(bytes, at, 12),
         stamps: stamps_at(bytes, ahead(at, 13)),
         breach: Breach {
             clock: word(bytes, at, 34),
@@ -49,13 +49,14 @@ pub(crate) fn checker_at(bytes: &[u8], at: usize) -> Checker {
     }
 }
 
+// From 4 on it is that of a waiting request, and the rest its place.
 fn open_pair(number: u32) -> OpenPair {
     match number {
         0 => OpenPair::Nothing,
         1 => OpenPair::Extended,
         2 => OpenPair::Regular,
         3 => OpenPair::Refresh,
-        _ => OpenPair::Oldest,
+        _ => OpenPair::Waiting(number - 4),
     }
 }
 

@@ -6,12 +6,12 @@ use crate::script::wired_at;
 use crate::script::word;
 use crate::shown;
 use crate::states::checker_at;
+use checker::Checker;
+use checker::Stepped;
+use checker::Verdict;
 use config::Config;
 use lending::advance_through;
 use limits::check_within;
-use protocol::Checker;
-use protocol::Stepped;
-use protocol::Verdict;
 use walks::Moved;
 use walks::Progress;
 

@@ -1,4 +1,4 @@
--- A pair with no bit above 19 is sound or not by the pins that `Ignored` names alone. Assumes nothing.
+-- A pair with no bit above 19 is sound or not by the pins that `Ignored` names alone.
 use Prim.Native.Nat.{ℕ, _+_, _/_, _%_, _^_}
 use mathlib.Core.Path.{_≡_, refl}
 use mathlib.Core.Bool.{Bool, true, false, not, _&&_, _||_}

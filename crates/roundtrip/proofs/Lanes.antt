@@ -1,5 +1,5 @@
--- A lane's words in range are what its two pins read back to; and pins that are not reserved read to words in range, which are
--- written back as they were. Each by its few cases. Assumes nothing.
+-- A lane's words in range are what its two pins read back to; and pins that are not reserved read to words in range, which are written back
+-- as they were. Each by its few cases.
 use Prim.Native.Nat.{ℕ}
 use mathlib.Core.Path.{_≡_}
 use mathlib.Core.Bool.{Bool, true, false, not, _&&_, _||_, true≢false}

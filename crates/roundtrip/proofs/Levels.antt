@@ -1,4 +1,4 @@
--- A pin's level and the test whether it is high are two forms of one thing. Assumes nothing.
+-- A pin's level and the test whether it is high are two forms of one thing.
 use Prim.Native.Nat.{ℕ, zero, suc, _+_, _*_, _≤_, _<_, _/_, _^_}
 use mathlib.Core.Path.{_≡_, refl, _∙_}
 use mathlib.Core.Bool.{Bool, true, false}

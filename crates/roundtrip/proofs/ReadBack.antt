@@ -1,4 +1,4 @@
--- A sound pair stands for an operation in range, which is written back as the pair with every ignored pin low. Assumes nothing.
+-- A sound pair stands for an operation in range, which is written back as the pair with every ignored pin low.
 use Prim.Native.Nat.{ℕ, _+_, _*_, _/_, _^_, _<_}
 use mathlib.Core.Path.{_≡_, refl, sym, ap, subst⁻¹, _∙_}
 use mathlib.Core.Bool.{Bool, true, false, cond, not, _&&_, _||_, or-true, true≢false}
@@ -15,7 +15,18 @@ use Rattle.config.proofs.Bounds.{both}
 use Rattle.command.specs.Pins.{pins, high, put, drive, level}
 use Rattle.command.specs.Address.{bankOf, rowOf, addressFits, addressAt}
 use Rattle.command.specs.Pairs.{rda, lal}
-use Rattle.reading.specs.Reading.{columnOf, laneOf, accessOf, registerFits, modeFits, modeBy, modeWrong, laneReserved, soundPair, operationOf}
+use Rattle.reading.specs.Reading.{
+  columnOf,
+  laneOf,
+  accessOf,
+  registerFits,
+  modeFits,
+  modeBy,
+  modeWrong,
+  laneReserved,
+  soundPair,
+  operationOf,
+}
 use Rattle.writing.specs.Writing.{lanesFit, operationFits, laneAt, pairOf}
 use Rattle.roundtrip.specs.Ignored.{Pins, only, always, firstPins, columnWidth, lanePins, writePins, secondPins, ignoredLow}
 use Rattle.command.specs.declared.operation.Operation.{Operation}
@@ -97,7 +108,8 @@ address-fits false f = rw (le-leb (bankOf false f) 7 (omega arith), le-leb (rowO
 address-word : (four : Bool) (f : ℕ) → addressAt four (bankOf four f) (rowOf four f) ≡ pins 14 3 f * 2 ^ 14 + pins 0 14 f
 address-word true f =
     rw (pins-split 14 1 2 f)
-    (total (pins 16 1 f) (pins 14 2 f) (pins 0 14 f) (mod-lt (f / 2 ^ 16) (lit< tt)) (mod-lt (f / 2 ^ 14) (lit< tt)) (mod-lt (f / 1) (lit< tt)))
+    (total (pins 16 1 f) (pins 14 2 f) (pins 0 14 f) (mod-lt (f / 2 ^ 16) (lit< tt)) (mod-lt (f / 2 ^ 14) (lit< tt))
+    (mod-lt (f / 1) (lit< tt)))
   where
     total : (p q a : ℕ) → p < 2 → q < 4 → a < 2 ^ 14 → addressAt true q (p * 2 ^ 14 + a) ≡ (p * 4 + q) * 2 ^ 14 + a
     total p q a top bank low = omega arith
@@ -185,7 +197,8 @@ module _ (c : Config) (bl : (c .bl ≡ 2) ⊎ (c .bl ≡ 4)) (f s : ℕ) (h : So
 
   -- the second word of a write pair is not reserved, in the lower lane and, by 16, in the upper
   lanes-used : rda f ≡ false → lal s ≡ true
-      → (unused (derived c) (high 16 s) (high 13 s) ≡ false) × ((eqb (c .bl) 4 && (eqb (c .organisation) 16 && (not (high 12 s) && not (high 11 s)))) ≡ false)
+      → (unused (derived c) (high 16 s) (high 13 s) ≡ false) ×
+      ((eqb (c .bl) 4 && (eqb (c .organisation) 16 && (not (high 12 s) && not (high 11 s)))) ≡ false)
   lanes-used r l = neither (eqb (c .bl) 4) (not (high 16 s) && not (high 13 s)) _ (rw (r, l) at (h .lane))
 
   read-back : rda f ≡ true → lal s ≡ true
@@ -202,7 +215,8 @@ module _ (c : Config) (bl : (c .bl ≡ 2) ⊎ (c .bl ≡ 4)) (f s : ℕ) (h : So
   write-lanes : (wide : Bool) → eqb (c .organisation) 16 ≡ wide → rda f ≡ false → lal s ≡ true
       → (lanesFit (derived c) (accessOf (derived c) true f s) ≡ true)
       × (laneAt (derived c) 16 13 (laneOf (derived c) (high 16 s) (high 13 s))
-      + cond (eqb (c .organisation) 16) (laneAt (derived c) 12 11 (cond (eqb (c .organisation) 16) (laneOf (derived c) (high 12 s) (high 11 s)) 0)) 0
+      + cond (eqb (c .organisation) 16)
+      (laneAt (derived c) 12 11 (cond (eqb (c .organisation) 16) (laneOf (derived c) (high 12 s) (high 11 s)) 0)) 0
       ≡ only (writePins c) s)
   write-lanes false w r l =
       let u = lanes-used r l in
@@ -230,7 +244,12 @@ module _ (c : Config) (bl : (c .bl ≡ 2) ⊎ (c .bl ≡ 4)) (f s : ℕ) (h : So
         rw (address-fits (derived c .four) f, column-fits wide s) (lanes .0),
         rw (r, l)
             (pair-path (first-word (derived c .four) f false r (h .cs) (h .pd₁))
-            (rw (column-word c wide refl s, only-append (writePins c) always s, always-word s (is-high 18 s l) (h .pd₂), ← lanes .1) (regroup 786432 _ _ _))),
+            (rw (
+              column-word c wide refl s,
+              only-append (writePins c) always s,
+              always-word s (is-high 18 s l) (h .pd₂),
+              ← lanes .1,
+            ) (regroup 786432 _ _ _))),
       )
 
   by-mode : rda f ≡ true → lal s ≡ false → (extended : Bool) → high 14 s ≡ extended

@@ -1,5 +1,5 @@
--- Reading and writing are each other's inverse: an accepted configuration has one of two burst lengths and one of three latencies,
--- for which WrittenBack and ReadBack have the two halves, and IgnoredPins that a refused pair stays one. Assumes nothing.
+-- Reading and writing are each other's inverse: an accepted configuration has one of two burst lengths and one of three latencies, for
+-- which WrittenBack and ReadBack have the two halves, and IgnoredPins that a refused pair stays one.
 use mathlib.Core.Path.{_≡_, refl, sym, subst, _∙_}
 use mathlib.Core.Bool.{Bool, true, false, _||_}
 use Rattle.basics.specs.Outcome.{Outcome, value, refused, require}

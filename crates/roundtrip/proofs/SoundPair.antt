@@ -1,4 +1,4 @@
--- The tests that a sound pair passes, one by one. Assumes nothing.
+-- The tests that a sound pair passes, one by one.
 use Prim.Native.Nat.{ℕ}
 use mathlib.Core.Path.{_≡_, refl}
 use mathlib.Core.Bool.{Bool, true, false, not, _&&_, _||_, false≢true}

@@ -1,4 +1,4 @@
--- What the words of a written access show on their pins. Assumes nothing.
+-- What the words of a written access show on their pins.
 use Prim.Native.Nat.{ℕ, _+_, _*_, _≤_, _<_, _/_, _%_, _^_}
 use mathlib.Core.Path.{_≡_, sym, _∙_}
 use mathlib.Core.Bool.{Bool, true, false, not}

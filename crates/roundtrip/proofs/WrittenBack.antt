@@ -1,4 +1,4 @@
--- An operation in range, written, makes a sound pair that stands for it. Assumes nothing.
+-- An operation in range, written, makes a sound pair that stands for it.
 use Prim.Native.Nat.{ℕ, _+_, _≤_, _/_, _^_}
 use mathlib.Core.Path.{_≡_, refl, sym, ap, subst⁻¹}
 use mathlib.Core.Bool.{Bool, true, false, cond, not, _&&_, _||_, Bool·not-not, and-true, and-false, or-false, false≢true}
@@ -61,8 +61,10 @@ column-bound : (wide : Bool) (n : ℕ) → (leb n 255 || not wide && leb n 511) 
 column-bound true n e =
     let h = leb-true n 255 (rw or-false at e) in
     (omega arith, λ w. h)
-column-bound false n e =
-    (⊎-elim (λ h. le-trans (leb-true n 255 h) (lit≤ tt)) (λ h. leb-true n 511 h) (either (leb n 255) (leb n 511) e), λ w. absurd (false≢true w))
+column-bound false n e = (
+  ⊎-elim (λ h. le-trans (leb-true n 255 h) (lit≤ tt)) (λ h. leb-true n 511 h) (either (leb n 255) (leb n 511) e),
+  λ w. absurd (false≢true w),
+)
 
 column-back : (wide : Bool) (n s : ℕ) → (wide ≡ true → pins 0 8 s ≡ n) → pins 0 9 s ≡ n → cond wide (pins 0 8 s) (pins 0 9 s) ≡ n
 column-back true n s w k = w refl
@@ -131,7 +133,8 @@ module _ (t : Timing) (bl : (t .bl ≡ 2) ⊎ (t .bl ≡ 4)) where
       (rw (second .upper₀, second .upper₁) (d .upper))
       (rw (second .lower₀, second .lower₁, second .upper₀, second .upper₁) (d .used)))
 
-  pub written-back : (3 ≤ t .cl) × (t .cl ≤ 5) → (o : Operation) → operationFits t o ≡ true → ReadsTo t (pairOf t o .first) (pairOf t o .second) o
+  pub written-back : (3 ≤ t .cl) × (t .cl ≤ 5) → (o : Operation) → operationFits t o ≡ true
+      → ReadsTo t (pairOf t o .first) (pairOf t o .second) o
   written-back cl (Access r) e = written-access r e
   written-back cl (Regular a3) e =
       let s = pairOf t (Regular a3) .second in

@@ -17,4 +17,5 @@ pub record RoundTrip : Type 0 where
   -- a pair that reads as an operation is written back as the same pair with every ignored pin low
   pub read-writes-back : (c : Config) (p : Pair) (o : Operation) → readPair c p ≡ value o → writePair c o ≡ value (ignoredLow c p)
   -- a pair with no bit above 19 is read, or refused, as the same pair with every ignored pin low
-  pub ignored-when-read : (c : Config) (p : Pair) → (strayBit (p .first) || strayBit (p .second)) ≡ false → readPair c p ≡ readPair c (ignoredLow c p)
+  pub ignored-when-read : (c : Config) (p : Pair) → (strayBit (p .first) || strayBit (p .second)) ≡ false
+      → readPair c p ≡ readPair c (ignoredLow c p)

@@ -1,4 +1,4 @@
--- Lists of closing clocks: none is 0, so a place that holds 0 is past the end. Assumes nothing.
+-- Lists of closing clocks: none is 0, so a place that holds 0 is past the end.
 use Prim.Native.Nat.{ℕ, zero, suc, _+_, _≤_, _<_}
 use mathlib.Core.Path.{_≡_, refl, sym, _∙_, ap}
 use mathlib.Core.Bool.{Bool, true, false, cond, not}

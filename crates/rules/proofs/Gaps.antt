@@ -1,5 +1,4 @@
 -- If each REF word is at most D after the one before it, and k at most D after the last, then k is at most m × D after the m-th last.
--- Assumes nothing.
 use Prim.Native.Nat.{ℕ, zero, suc, _+_, _-_, _*_, _≤_, min}
 use mathlib.Core.Path.{_≡_, refl}
 use mathlib.Core.Bool.{false, _&&_, and-false}

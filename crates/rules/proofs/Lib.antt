@@ -7,3 +7,4 @@ pub mod Tests
 pub mod Gaps
 pub mod Words
 pub mod Kept
+pub mod Turns

@@ -1,5 +1,5 @@
--- Among earlier pairs of a kind the newest one binds: starts fall along the history, and a spacing that the newest keeps is kept by
--- every older one. One lemma over the kind and the spacing. Assumes nothing.
+-- Among earlier pairs of a kind the newest one binds: starts fall along the history, and a spacing that the newest keeps is kept by every
+-- older one. One lemma over the kind and the spacing.
 use Prim.Native.Nat.{ℕ, _+_, _-_, _≤_}
 use mathlib.Core.Path.{_≡_, refl}
 use mathlib.Core.Bool.{Bool, true, false, cond, not, _&&_, _||_, and-false}
@@ -22,7 +22,8 @@ Ordered b (p ∷ ps) = (p .start + 2 ≤ b) × Ordered (p .start) ps
 abbrev pub latest : (ClosedPair → Bool) → List ClosedPair → ℕ
 latest f ps = getD (closings f ps) 0 0
 
-pub latest-cons : (f : ClosedPair → Bool) (p : ClosedPair) (ps : List ClosedPair) → latest f (p ∷ ps) ≡ cond (f p) (p .start + 1) (latest f ps)
+pub latest-cons : (f : ClosedPair → Bool) (p : ClosedPair) (ps : List ClosedPair)
+    → latest f (p ∷ ps) ≡ cond (f p) (p .start + 1) (latest f ps)
 latest-cons f p ps = go (f p)
   where
     go : (b : Bool) → getD (cond b ((p .start + 1) ∷ closings f ps) (closings f ps)) 0 0 ≡ cond b (p .start + 1) (latest f ps)

@@ -1,4 +1,4 @@
--- What is kept of a history, as a function of it; a pair that closes changes it as `remembered` says. Assumes nothing.
+-- What is kept of a history, as a function of it; a pair that closes changes it as `remembered` says.
 use Prim.Native.Nat.{ℕ, zero, suc, _+_, _<_}
 use mathlib.Core.Path.{_≡_, refl, _∙_, ap, fun-ext}
 use mathlib.Core.Bool.{Bool, true, false, cond, _&&_}
@@ -85,11 +85,13 @@ module _ (four : Bool) (u first second : ℕ) (ps : List ClosedPair) where
   banks : eachBank (λ b. latest (ofBank four b) (pair ∷ ps)) ≡ eachBank (λ b. cond (ofBank four b pair) (u + 1) (latest (ofBank four b) ps))
   banks = ap eachBank (fun-ext (λ b. latest-cons (ofBank four b) pair ps))
 
-  access : (r : Bool) → rda first ≡ r → lal second ≡ true → summary four (pair ∷ ps) ≡ withAccess (summary four ps) (u + 1) r (bankOf four first)
+  access : (r : Bool) → rda first ≡ r → lal second ≡ true
+      → summary four (pair ∷ ps) ≡ withAccess (summary four ps) (u + 1) r (bankOf four first)
   access true r l = rw (banks, r, l, set-bank (λ b. latest (ofBank four b) ps) (bankOf four first) (u + 1) (bank-bound four first))
   access false r l = rw (banks, r, l, set-bank (λ b. latest (ofBank four b) ps) (bankOf four first) (u + 1) (bank-bound four first))
 
-  mode : (e : Bool) → high 14 second ≡ e → rda first ≡ true → lal second ≡ false → summary four (pair ∷ ps) ≡ withMode (summary four ps) (u + 1) e
+  mode : (e : Bool) → high 14 second ≡ e → rda first ≡ true → lal second ≡ false
+      → summary four (pair ∷ ps) ≡ withMode (summary four ps) (u + 1) e
   mode true e r l = rw (r, l, e, oldest-cons (u + 1) (closings wasExtended ps) (closings-past0 wasExtended ps))
   mode false e r l = rw (r, l, e)
 
@@ -99,7 +101,8 @@ module _ (four : Bool) (u first second : ℕ) (ps : List ClosedPair) where
   pub summary-step : summary four (pair ∷ ps) ≡ remembered four (summary four ps) (u + 1) first second
   summary-step = by-kind (lal second) refl (rda first) refl
     where
-      by-kind : (l : Bool) → lal second ≡ l → (r : Bool) → rda first ≡ r → summary four (pair ∷ ps) ≡ remembered four (summary four ps) (u + 1) first second
+      by-kind : (l : Bool) → lal second ≡ l → (r : Bool) → rda first ≡ r
+          → summary four (pair ∷ ps) ≡ remembered four (summary four ps) (u + 1) first second
       by-kind true l r e = access (rda first) refl l ∙ remember-access four (summary four ps) (u + 1) first second l
       by-kind false l true r = mode (high 14 second) refl r l ∙ remember-mode four (summary four ps) (u + 1) first second l r
       by-kind false l false r = refresh r l ∙ remember-refresh four (summary four ps) (u + 1) first second l r

@@ -1,5 +1,4 @@
 -- A word after a past is judged, and remembered, as the checker does it; so the verdict on a trace is that of a run over what is kept.
--- Assumes nothing.
 use Prim.Native.Nat.{ℕ, zero, suc, _+_, _-_, _≤_, _<_}
 use mathlib.Core.Path.{_≡_, refl, sym, _∙_, ap, ap₂}
 use mathlib.Core.Bool.{Bool, true, false, cond, not, _&&_}
@@ -13,11 +12,26 @@ use lib.Dec.{eqb}
 use Rattle.config.specs.declared.Timing.{Timing}
 use Rattle.command.specs.Pins.{high, strayBit}
 use Rattle.command.specs.Pairs.{selected}
-use Rattle.rules.specs.History.{ClosedPair, Rest, idle, poweredDown, exiting, Phase, pair, between, Past, afterDesl, nextPhase, nextPairs, extend, pastFrom}
+use Rattle.rules.specs.History.{
+  ClosedPair,
+  Rest,
+  idle,
+  poweredDown,
+  exiting,
+  Phase,
+  pair,
+  between,
+  Past,
+  afterDesl,
+  nextPhase,
+  nextPairs,
+  extend,
+  pastFrom,
+}
 use Rattle.rules.specs.Rules.{rule2, rule13, lowest, breachAt}
 use Rattle.rules.specs.Verdict.{Judgement, accepted, breach, lead, judgeFrom, judge}
-use Rattle.rules.specs.Kept.{firstOf}
-use Rattle.stamps.specs.Stamps.{remembered, nextStamps, isPoweredDown, nextFirst, never}
+use Rattle.rules.specs.Kept.{metOf}
+use Rattle.stamps.specs.Stamps.{remembered, nextStamps, isPoweredDown, nextMet, never}
 use Rattle.rules.specs.Breaches.{deadline, overdue, wronglyLow, selectedAtExit, closingBreach, wordBreach}
 use Rattle.stamps.specs.declared.Timestamps.{Timestamps}
 use Rattle.rules.proofs.Newest.{Ordered}
@@ -44,7 +58,8 @@ one-more idle k h = omega arith
 one-more poweredDown k h = omega arith
 one-more exiting k h = omega arith
 
-pub regular-extend : (o : Phase) (k : ℕ) (ps : List ClosedPair) (w : ℕ) → Regular o k ps → Regular (nextPhase o w) (k + 1) (nextPairs o k w ps)
+pub regular-extend : (o : Phase) (k : ℕ) (ps : List ClosedPair) (w : ℕ) → Regular o k ps
+    → Regular (nextPhase o w) (k + 1) (nextPairs o k w ps)
 regular-extend (pair first) k ps w r =
     let h = r .0 in
     (omega arith, (omega arith, r .1))
@@ -59,34 +74,36 @@ regular-extend (between q) k ps w r = by (high 19 w) (selected w) refl
     by false b e = (omega arith, on)
 
 -- the word's breach
-early-first : (a b c : Bool) (n : ℕ) → cond a 1 (cond b 2 (cond c 3 n)) ≡ cond (eqb (lowest 1 (a ∷ b ∷ c ∷ [])) 0) n (lowest 1 (a ∷ b ∷ c ∷ []))
+early-first : (a b c : Bool) (n : ℕ)
+    → cond a 1 (cond b 2 (cond c 3 n)) ≡ cond (eqb (lowest 1 (a ∷ b ∷ c ∷ [])) 0) n (lowest 1 (a ∷ b ∷ c ∷ []))
 early-first true b c n = refl
 early-first false true c n = refl
 early-first false false true n = refl
 early-first false false false n = refl
 
 -- rules 2 and 13 where no pair is open
-pub none-opened : (r : Rest) → selected (firstOf (between r)) ≡ false
+pub none-opened : (r : Rest) → selected (metOf (between r)) ≡ false
 none-opened idle = refl
 none-opened poweredDown = refl
 none-opened exiting = refl
 
 module _ (t : Timing) (k : ℕ) (ps : List ClosedPair) (w : ℕ) (o : Ordered k ps) where
-  pub low-between : (r : Rest) → rule2 t (record { clock = k; phase = between r; pairs = ps }) w ≡ wronglyLow t (summary (t .four) ps) k (firstOf (between r)) w
+  pub low-between : (r : Rest)
+      → rule2 t (record { clock = k; phase = between r; pairs = ps }) w ≡ wronglyLow t (summary (t .four) ps) k (metOf (between r)) w
   low-between idle = rw (low-is t k ps o)
   low-between poweredDown = refl
   low-between exiting = refl
 
-  pub exit-between : (r : Rest) → rule13 t (record { clock = k; phase = between r; pairs = ps }) w ≡ selectedAtExit (firstOf (between r)) w
+  pub exit-between : (r : Rest) → rule13 t (record { clock = k; phase = between r; pairs = ps }) w ≡ selectedAtExit (metOf (between r)) w
   exit-between idle = refl
   exit-between poweredDown = refl
   exit-between exiting = refl
 
 pub breach-is : (t : Timing) (o : Phase) (k : ℕ) (ps : List ClosedPair) (w : ℕ) → Regular o k ps
-    → breachAt t (record { clock = k; phase = o; pairs = ps }) w ≡ wordBreach t (summary (t .four) ps) k (firstOf o) w
+    → breachAt t (record { clock = k; phase = o; pairs = ps }) w ≡ wordBreach t (summary (t .four) ps) k (metOf o) w
 breach-is t (between q) k ps w r =
     let s = summary (t .four) ps in
-    let first = firstOf (between q) in
+    let first = metOf (between q) in
     let p : Past = record { clock = k; phase = between q; pairs = ps } in
     let due = overdue (deadline (t .refi) (s .refs)) k in
     let early = lowest 1 (strayBit w ∷ wronglyLow t s k first w ∷ due ∷ []) in
@@ -95,13 +112,23 @@ breach-is t (between q) k ps w r =
     (early-first (strayBit w) (wronglyLow t s k first w) due other)
     ∙ ap (λ b. cond (eqb early 0) (cond b (closingBreach t s k first w) other) early) (sym (none-opened q))
 breach-is t (pair first) k ps w r =
-    rw
-    (not-true (high 18 first) (r .2), overdue-is t (record { clock = k; phase = pair first; pairs = ps }) w, ready-is t k first w ps (r .1), bank-is t k first w ps (r .1), close-is t k first w ps (r .1), mode-is t k first w ps (r .1), refresh-is t k first w ps (r .1), busy-is t k first w ps (r .1), window-is t k first w ps (r .1) (r .0))
-    (early-first (strayBit w) (not (high 19 w) && true) (overdue (deadline (t .refi) (summary (t .four) ps .refs)) k) (closingBreach t (summary (t .four) ps) k first w))
+    rw (
+      not-true (high 18 first) (r .2),
+      overdue-is t (record { clock = k; phase = pair first; pairs = ps }) w,
+      ready-is t k first w ps (r .1),
+      bank-is t k first w ps (r .1),
+      close-is t k first w ps (r .1),
+      mode-is t k first w ps (r .1),
+      refresh-is t k first w ps (r .1),
+      busy-is t k first w ps (r .1),
+      window-is t k first w ps (r .1) (r .0),
+    )
+    (early-first (strayBit w) (not (high 19 w) && true) (overdue (deadline (t .refi) (summary (t .four) ps .refs)) k)
+    (closingBreach t (summary (t .four) ps) k first w))
 
 -- what is kept after the word
 pub stamps-is : (four : Bool) (o : Phase) (k : ℕ) (ps : List ClosedPair) (w : ℕ) → Regular o k ps
-    → summary four (nextPairs o k w ps) ≡ nextStamps four (summary four ps) k (firstOf o) w
+    → summary four (nextPairs o k w ps) ≡ nextStamps four (summary four ps) k (metOf o) w
 stamps-is four (between q) k ps w r = rw (none-opened q)
 stamps-is four (pair first) k ps w r =
     let h = r .0 in
@@ -109,22 +136,22 @@ stamps-is four (pair first) k ps w r =
     summary-step four (k - 1) first w ps
     ∙ rw (r .2) (ap (λ k. remembered four (summary four ps) k first w) at)
 
-after-desl-is : (q : Rest) → firstOf (between (afterDesl q)) ≡ cond (isPoweredDown (firstOf (between q))) 0xE0000 0xC0000
+after-desl-is : (q : Rest) → metOf (between (afterDesl q)) ≡ cond (isPoweredDown (metOf (between q))) 0xE0000 0xC0000
 after-desl-is idle = refl
 after-desl-is poweredDown = refl
 after-desl-is exiting = refl
 
-pub first-is : (o : Phase) (k : ℕ) (ps : List ClosedPair) (w : ℕ) → Regular o k ps → firstOf (nextPhase o w) ≡ nextFirst (firstOf o) w
-first-is (between q) k ps w r = rw (none-opened q) (by (high 19 w) (selected w))
+pub met-is : (o : Phase) (k : ℕ) (ps : List ClosedPair) (w : ℕ) → Regular o k ps → metOf (nextPhase o w) ≡ nextMet (metOf o) w
+met-is (between q) k ps w r = rw (none-opened q) (by (high 19 w) (selected w))
   where
     next : ℕ
-    next = cond (isPoweredDown (firstOf (between q))) 0xE0000 0xC0000
+    next = cond (isPoweredDown (metOf (between q))) 0xE0000 0xC0000
 
-    by : (pd b : Bool) → firstOf (cond pd (cond b (pair w) (between (afterDesl q))) (between poweredDown)) ≡ cond pd (cond b w next) 0x40000
+    by : (pd b : Bool) → metOf (cond pd (cond b (pair w) (between (afterDesl q))) (between poweredDown)) ≡ cond pd (cond b w next) 0x40000
     by true true = refl
     by true false = after-desl-is q
     by false b = refl
-first-is (pair first) k ps w r = rw (r .2)
+met-is (pair first) k ps w r = rw (r .2)
 
 pub past-append : (p : Past) (ws : List ℕ) (w : ℕ) → pastFrom p (ws ++ (w ∷ [])) ≡ extend (pastFrom p ws) w
 past-append p [] w = refl
@@ -134,15 +161,15 @@ past-append p (v ∷ ws) w = past-append (extend p v) ws w
 abbrev pub run : Timing → Timestamps → ℕ → ℕ → List ℕ → Judgement
 run t s k first [] = accepted
 run t s k first (w ∷ ws) =
-    let rest = run t (nextStamps (t .four) s k first w) (k + 1) (nextFirst first w) ws in
+    let rest = run t (nextStamps (t .four) s k first w) (k + 1) (nextMet first w) ws in
     lead (wordBreach t s k first w) k rest
 
 run-from : (t : Timing) (o : Phase) (k : ℕ) (ps : List ClosedPair) (ws : List ℕ) → Regular o k ps
-    → judgeFrom t (record { clock = k; phase = o; pairs = ps }) ws ≡ run t (summary (t .four) ps) k (firstOf o) ws
+    → judgeFrom t (record { clock = k; phase = o; pairs = ps }) ws ≡ run t (summary (t .four) ps) k (metOf o) ws
 run-from t o k ps [] r = refl
 run-from t o k ps (w ∷ ws) r =
     let rest = run-from t (nextPhase o w) (k + 1) (nextPairs o k w ps) ws (regular-extend o k ps w r) in
-    ap₂ (λ n j. lead n k j) (breach-is t o k ps w r) (rest ∙ rw (stamps-is (t .four) o k ps w r, first-is o k ps w r))
+    ap₂ (λ n j. lead n k j) (breach-is t o k ps w r) (rest ∙ rw (stamps-is (t .four) o k ps w r, met-is o k ps w r))
 
 pub run-is : (t : Timing) (ws : List ℕ) → judge t ws ≡ run t never 0 0xC0000 ws
 run-is t ws = run-from t (between idle) 0 [] ws (omega arith, tt)
@@ -150,10 +177,10 @@ run-is t ws = run-from t (between idle) 0 [] ws (omega arith, tt)
 -- a run at a place of a list: a word that passes leads on, one that does not ends it, and the list's end accepts
 module _ (t : Timing) (s : Timestamps) (first : ℕ) (ws : List ℕ) (k : ℕ) where
   module _ {w n : ℕ} (inside : k < length ws) (word : w ≡ getD ws k 0) (number : n ≡ wordBreach t s k first w) where
-    at : run t s k first (drop k ws) ≡ lead n k (run t (nextStamps (t .four) s k first w) (k + 1) (nextFirst first w) (drop (k + 1) ws))
+    at : run t s k first (drop k ws) ≡ lead n k (run t (nextStamps (t .four) s k first w) (k + 1) (nextMet first w) (drop (k + 1) ws))
     at = ap (run t s k first) (drop-cons ws k 0 inside ∙ ap (λ j. getD ws k 0 ∷ drop j ws) (sym (add-one k))) ∙ rw (number, word)
 
-    pub run-passes : {s₁ : Timestamps} {first₁ : ℕ} → n ≡ 0 → s₁ ≡ nextStamps (t .four) s k first w → first₁ ≡ nextFirst first w
+    pub run-passes : {s₁ : Timestamps} {first₁ : ℕ} → n ≡ 0 → s₁ ≡ nextStamps (t .four) s k first w → first₁ ≡ nextMet first w
         → run t s k first (drop k ws) ≡ run t s₁ (k + 1) first₁ (drop (k + 1) ws)
     run-passes e stamps opened = at ∙ rw (e, stamps, opened)
 

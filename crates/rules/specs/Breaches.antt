@@ -28,7 +28,7 @@ abbrev pub deadlineBy : ℕ → ℕ → List ℕ → ℕ
 deadlineBy zero refi refs = 0
 deadlineBy (suc i) refi refs = cond (eqb (getD refs i 0) 0) (deadlineBy i refi refs) (getD refs i 0 + suc i * refi)
 
--- the same by the eight that are kept
+-- the last clock that rule 3 allows, by D and the eight REF words that are kept; 0 where there is none
 abbrev pub deadline : ℕ → List ℕ → ℕ
 deadline refi refs = deadlineBy 8 refi refs
 
@@ -71,7 +71,7 @@ tooClose isRda isLal t read write k =
     || not isRda && isLal && near k read (t .rwd + 1)
     || isRda && isLal && near k write (t .wrd + 1)
 
--- rule 11, by the same
+-- rule 11, by RDA and LAL and the last read and the last write
 abbrev pub busy : Bool → Bool → Timing → ℕ → ℕ → ℕ → Bool
 busy isRda isLal t read write k =
     not isLal && (near k read (t .rc) || near k write (t .rc))

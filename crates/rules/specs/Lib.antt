@@ -5,3 +5,4 @@ pub mod Rules
 pub mod Verdict
 pub mod Breaches
 pub mod Kept
+pub mod Turns

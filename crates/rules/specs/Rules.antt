@@ -192,6 +192,6 @@ lowest n (b ∷ bs) = cond b n (lowest (suc n) bs)
 abbrev pub breachBy : List Rule → Timing → Past → ℕ → ℕ
 breachBy table t p w = lowest 1 (map (λ rule. rule t p w) table)
 
--- the same by the rules
+-- the breach of the word w after the past p: the lowest number of a published rule that it breaks, or 0
 abbrev pub breachAt : Timing → Past → ℕ → ℕ
 breachAt t p w = breachBy rules t p w

@@ -3,6 +3,7 @@ use Prim.Native.Nat.{ℕ, zero, suc, _/_, _%_}
 use mathlib.Core.List.{List, [], _∷_}
 use lib.ListN.{length}
 use lib.Dec.{eqb, leb}
+use Rattle.basics.specs.Numbers.{limit}
 use Rattle.basics.specs.Outcome.{Outcome, value, require, given}
 use Rattle.config.specs.Configuration.{timingOf}
 use Rattle.config.specs.declared.Config.{Config}
@@ -27,7 +28,7 @@ abbrev pub judgeBy : List Rule → Timing → Past → List ℕ → Judgement
 judgeBy table t p [] = accepted
 judgeBy table t p (w ∷ ws) = let rest = judgeBy table t (extend p w) ws in lead (breachBy table t p w) (p .clock) rest
 
--- the same by the rules
+-- the words that come after a past, by the published rules
 abbrev pub judgeFrom : Timing → Past → List ℕ → Judgement
 judgeFrom t p words = judgeBy rules t p words
 
@@ -37,11 +38,11 @@ judge t words = judgeFrom t nothing words
 
 -- the whole check: the verdict; or the sheet's refusals, then 24 for more than 16,777,216 words, whatever stands in them (RULES 5.3)
 abbrev pub checkOf : Config → List ℕ → Outcome Judgement
-checkOf c words = given (timingOf c) (λ t. require (leb (length words) 16777216) 24 (value (judge t words)))
+checkOf c words = given (timingOf c) (λ t. require (leb (length words) limit) 24 (value (judge t words)))
 
--- the same of a trace in little-endian bytes: 29, if they are no multiple of four, comes behind the sheet's refusals and before 24 (RULES
--- 7.1)
+-- the whole check of a trace in little-endian bytes: 29, if they are no multiple of four, comes behind the sheet's refusals and before 24
+-- (RULES 7.1)
 abbrev pub checkBytesOf : Config → List ℕ → Outcome Judgement
 checkBytesOf c bytes =
     given (timingOf c)
-    (λ t. require (eqb (length bytes % 4) 0) 29 (require (leb (length bytes / 4) 16777216) 24 (value (judge t (wordsOf bytes)))))
+    (λ t. require (eqb (length bytes % 4) 0) 29 (require (leb (length bytes / 4) limit) 24 (value (judge t (wordsOf bytes)))))

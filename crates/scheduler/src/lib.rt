@@ -8,7 +8,7 @@ use stamps::Timestamps;
 ghost use mathlib.Core.Path.{_≡_};
 ghost use Prim.Native.Nat.{_+_};
 ghost use lib.Dec.{leb};
-ghost use Rattle.scheduler.specs.Pairs.{pairWords, isOpen, ofOldest, nextPair};
+ghost use Rattle.scheduler.specs.Pairs.{pairWords, isOpen, ofWaiting, placeOf, chosenAt, nextPair};
 
 // What the open pair stands for; its closing word is the next.
 pub enum OpenPair {
@@ -16,8 +16,8 @@ pub enum OpenPair {
     Extended,
     Regular,
     Refresh,
-    // The oldest waiting request.
-    Oldest,
+    // The waiting request at this place.
+    Waiting(u32),
 }
 
 // A pair is open.
@@ -29,26 +29,39 @@ pub fn is_open(opened: OpenPair) -> bool
         OpenPair::Extended => true,
         OpenPair::Regular => true,
         OpenPair::Refresh => true,
-        OpenPair::Oldest => true,
+        OpenPair::Waiting(_) => true,
     }
 }
 
-// The open pair is that of a request.
-pub fn of_oldest(opened: OpenPair) -> bool
-    ensures { λ r. ⌜ r ≡ ofOldest opened ⌝ }
+// The open pair is that of a waiting request.
+pub fn of_waiting(opened: OpenPair) -> bool
+    ensures { λ r. ⌜ r ≡ ofWaiting opened ⌝ }
 {
     match opened {
         OpenPair::Nothing => false,
         OpenPair::Extended => false,
         OpenPair::Regular => false,
         OpenPair::Refresh => false,
-        OpenPair::Oldest => true,
+        OpenPair::Waiting(_) => true,
     }
 }
 
-// The two words of an open pair; DESL where none is open.
-pub fn pair_words(timing: Timing, opened: OpenPair, oldest: Request) -> Pair
-    ensures { λ r. ⌜ r ≡ pairWords timing opened oldest ⌝ }
+// The place of the request whose pair is open; 0 where it is no request's.
+pub fn place_of(opened: OpenPair) -> u32
+    ensures { λ r. ⌜ r ≡ placeOf opened ⌝ }
+{
+    match opened {
+        OpenPair::Nothing => 0,
+        OpenPair::Extended => 0,
+        OpenPair::Regular => 0,
+        OpenPair::Refresh => 0,
+        OpenPair::Waiting(place) => place,
+    }
+}
+
+// The two words of an open pair, from the request at its place; DESL where none is open.
+pub fn pair_words(timing: Timing, opened: OpenPair, request: Request) -> Pair
+    ensures { λ r. ⌜ r ≡ pairWords timing opened request ⌝ }
 {
     match opened {
         OpenPair::Nothing => Pair {
@@ -58,7 +71,7 @@ pub fn pair_words(timing: Timing, opened: OpenPair, oldest: Request) -> Pair
         OpenPair::Extended => writing::encode(timing, Operation::Extended(0)),
         OpenPair::Regular => writing::encode(timing, Operation::Regular(false)),
         OpenPair::Refresh => writing::encode(timing, Operation::Refresh),
-        OpenPair::Oldest => writing::encode(timing, Operation::Access(oldest)),
+        OpenPair::Waiting(_) => writing::encode(timing, Operation::Access(request)),
     }
 }
 
@@ -69,9 +82,20 @@ fn refresh_due(last: u32, refi: u32, clock: u32, rc: u32) -> bool
     last as u64 + refi as u64 <= clock as u64 + rc as u64
 }
 
-// The start-up in its order, then a refresh that is due, then the oldest request.
-pub fn next_pair(timing: Timing, stamps: Timestamps, clock: u32, count: u32) -> OpenPair
-    ensures { λ r. ⌜ r ≡ nextPair timing stamps clock count ⌝ }
+// The pair of the request at a place, where so many wait; nothing where none waits there.
+pub fn chosen_at(place: u32, count: u32) -> OpenPair
+    ensures { λ r. ⌜ r ≡ chosenAt place count ⌝ }
+{
+    if place < count {
+        OpenPair::Waiting(place)
+    } else {
+        OpenPair::Nothing
+    }
+}
+
+// The start-up in its order, then a refresh that is due, then what is chosen.
+pub fn next_pair(timing: Timing, stamps: Timestamps, clock: u32, chosen: OpenPair) -> OpenPair
+    ensures { λ r. ⌜ r ≡ nextPair timing stamps clock chosen ⌝ }
 {
     let figures = timing.figures();
     let refs = stamps.refs;
@@ -85,9 +109,5 @@ pub fn next_pair(timing: Timing, stamps: Timestamps, clock: u32, count: u32) -> 
     if (refs[1] == 0) | due {
         return OpenPair::Refresh;
     }
-    if count == 0 {
-        OpenPair::Nothing
-    } else {
-        OpenPair::Oldest
-    }
+    chosen
 }

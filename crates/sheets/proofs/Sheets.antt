@@ -1,5 +1,5 @@
 -- Each call's definition asks the sheet first, and goes on only with its figures. Of the tests in a row, the one that fails is read off the
--- number. Assumes nothing.
+-- number.
 use Prim.Native.Nat.{ℕ, _<_}
 use mathlib.Core.Path.{_≡_, refl, sym, _∙_, ap}
 use mathlib.Core.Bool.{Bool, true, false, false≢true}
@@ -9,17 +9,17 @@ use borrow.Author.Tests.{eq-eqb, ne-eqb, lt-ltb, eqb-true, ltb-true, not-false}
 use lib.ListN.{length}
 use lib.Dec.{eqb, ltb}
 use Rattle.basics.specs.Outcome.{Outcome, value, refused, require, given}
-use Rattle.basics.proofs.Outcomes.{refused-by, Not, value-not, require-not}
+use Rattle.basics.proofs.Outcomes.{Not, value-not, require-not, require-behind, require-fails}
 use Rattle.config.specs.Configuration.{partFits, wiringFits, periodFits, countsFit, refreshFits, derived, timingOf}
 use Rattle.config.specs.declared.Config.{Config}
 use Rattle.config.specs.declared.Timing.{Timing}
 use Rattle.config.proofs.Bounds.{both}
 use Rattle.config.proofs.Accepted.{accepted}
-use Rattle.protocol.proofs.Refinement.{cond-case}
+use Rattle.checker.proofs.Refinement.{cond-case}
 use Rattle.fcram.specs.Number.{numberOf}
 use Rattle.rules.specs.Verdict.{checkBytesOf}
-use Rattle.protocol.specs.Steps.{refusing, stepBy, stepOf}
-use Rattle.protocol.specs.declared.checker.Checker.{Checker}
+use Rattle.checker.specs.Steps.{refusing, stepBy, stepOf}
+use Rattle.checker.specs.declared.checker.Checker.{Checker}
 use Rattle.walks.specs.Walk.{staying, examined}
 use Rattle.controller.specs.Steps.{offerBy, tickBy}
 use Rattle.sheets.specs.Sheets.{ShortRefresh, OtherWiring, RefusedBy, Sheets}
@@ -51,16 +51,7 @@ everywhere c n e =
       tick = λ s h. ap (λ o. tickBy o s) (ap timingOf h ∙ e);
     }
 
--- a refusal by n comes from behind a test with another number, and from the one with n if nothing behind that refuses so
-behind : {A : Type 0} (b : Bool) {m n : ℕ} (x : Outcome A) → (m ≡ n → ⊥) → require b m x ≡ refused n → (b ≡ true) × (x ≡ refused n)
-behind true x h e = (refl, e)
-behind false x h e = absurd (refused-by h e)
-
-fails : {A : Type 0} (b : Bool) {n : ℕ} (x : Outcome A) → Not n x → require b n x ≡ refused n → b ≡ false
-fails true x h e = absurd (h e)
-fails false x h e = refl
-
--- and the other way round
+-- a refusal by n behind a test that holds, and of one that fails
 passes : {A : Type 0} {b : Bool} (m : ℕ) {n : ℕ} {x : Outcome A} → b ≡ true → x ≡ refused n → require b m x ≡ refused n
 passes m h e = rw h e
 
@@ -83,11 +74,11 @@ short c s =
 
 only-short : (c : Config) → timingOf c ≡ refused 33 → ShortRefresh c
 only-short c e =
-    let part = behind (partFits c) _ (λ q. omega arith) e in
-    let wiring = behind (wiringFits c) _ (λ q. omega arith) (part .1) in
-    let period = behind (periodFits c) _ (λ q. omega arith) (wiring .1) in
-    let counts = behind (countsFit c) _ (λ q. omega arith) (period .1) in
-    let refresh = fails (refreshFits c) _ (value-not 33 (derived c)) (counts .1) in
+    let part = require-behind (partFits c) _ (λ q. omega arith) e in
+    let wiring = require-behind (wiringFits c) _ (λ q. omega arith) (part .1) in
+    let period = require-behind (periodFits c) _ (λ q. omega arith) (wiring .1) in
+    let counts = require-behind (countsFit c) _ (λ q. omega arith) (period .1) in
+    let refresh = require-fails (refreshFits c) _ (value-not 33 (derived c)) (counts .1) in
     let k = both (eqb (c .cl) 4) (ltb (c .refc .0) 18) (not-false _ refresh) in
     record {
       part = part .0;
@@ -109,12 +100,12 @@ other-wiring c u = passes 20 (u .part) (refuses 34 _ (neither c (u .four) (u .ei
 
 only-other-wiring : (c : Config) → timingOf c ≡ refused 34 → OtherWiring c
 only-other-wiring c e =
-    let part = behind (partFits c) _ (λ q. omega arith) e in
+    let part = require-behind (partFits c) _ (λ q. omega arith) e in
     let later : Not 34 _ =
     require-not (periodFits c) 21 34 _ (λ q. omega arith)
     (require-not (countsFit c) 22 34 _ (λ q. omega arith)
     (require-not (refreshFits c) 33 34 _ (λ q. omega arith) (value-not 34 (derived c)))) in
-    let wiring = fails (wiringFits c) _ later (part .1) in
+    let wiring = require-fails (wiringFits c) _ later (part .1) in
     record {
       part = part .0;
       four = λ h. false≢true (sym wiring ∙ rw h);

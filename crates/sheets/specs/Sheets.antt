@@ -17,8 +17,8 @@ use Rattle.rules.specs.Verdict.{checkOf, checkBytesOf}
 use Rattle.limits.specs.Limits.{withinOf}
 use Rattle.duration.specs.Duration.{durationOf}
 use Rattle.fcram.specs.Number.{numberOf}
-use Rattle.protocol.specs.Steps.{refusing, stepOf}
-use Rattle.protocol.specs.declared.checker.Checker.{Checker}
+use Rattle.checker.specs.Steps.{refusing, stepOf}
+use Rattle.checker.specs.declared.checker.Checker.{Checker}
 use Rattle.walks.specs.Walk.{staying, moveOf}
 use Rattle.controller.specs.Steps.{notOffered, notTicked, offerOf, tickOf}
 use Rattle.controller.specs.declared.Controller.{Controller}

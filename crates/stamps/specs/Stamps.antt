@@ -6,7 +6,7 @@ use mathlib.Core.List.{List, [], _∷_}
 use lib.ListN.{getD, set}
 use lib.Dec.{eqb}
 use Rattle.command.specs.Pins.{high}
-use Rattle.command.specs.Pairs.{selected, rda, lal}
+use Rattle.command.specs.Pairs.{selected, rda, lal, desl}
 use Rattle.command.specs.Address.{bankOf}
 use Rattle.stamps.specs.declared.Timestamps.{Timestamps}
 
@@ -72,20 +72,28 @@ remembered four s k first second =
 abbrev pub nextStamps : Bool → Timestamps → ℕ → ℕ → ℕ → Timestamps
 nextStamps four s k first w = cond (selected first) (remembered four s k first w) s
 
--- What the next word meets (RULES 2.8) is kept as one word: the first word of the open pair, which has CS low; where none is open, one
--- with CS high. Nothing is met if its PD is high and FN low. Asleep: PD is low.
+-- what the next word meets is kept as one word (RULES 2.8): the first word of the open pair, DESL for nothing, or this one where the memory
+-- is asleep
+abbrev pub asleep : ℕ
+asleep = 0x40000
+
+-- where the second of the two wake-up words is due, what the next word meets is kept as this one
+abbrev pub waking : ℕ
+waking = 0xE0000
+
+-- the memory is asleep, by what is met as one word: with CS high no pair is open, and PD is low
 abbrev pub isPoweredDown : ℕ → Bool
 isPoweredDown first = high 18 first && not (high 19 first)
 
--- the second wake-up word is due: PD and FN are high
+-- the second wake-up word is due, by what is met as one word: CS, PD and FN are high
 abbrev pub isExiting : ℕ → Bool
 isExiting first = high 18 first && (high 19 first && high 17 first)
 
--- the same after any word: DESL for nothing, 40000 in hexadecimal for asleep, E0000 for the second wake-up word due
-abbrev pub nextFirst : ℕ → ℕ → ℕ
-nextFirst first w =
-    cond (selected first) 0xC0000
-    (cond (high 19 w) (cond (selected w) w (cond (isPoweredDown first) 0xE0000 0xC0000)) 0x40000)
+-- what the word behind w meets, as one word, where w met `first`
+abbrev pub nextMet : ℕ → ℕ → ℕ
+nextMet first w =
+    cond (selected first) desl
+    (cond (high 19 w) (cond (selected w) w (cond (isPoweredDown first) waking desl)) asleep)
 
 -- nothing is remembered
 abbrev pub never : Timestamps

@@ -8,7 +8,8 @@ use command::pins::PD;
 use command::pins::high;
 ghost use mathlib.Core.Path.{_≡_};
 ghost use Prim.Native.Nat.{_<_};
-ghost use Rattle.stamps.specs.Stamps.{withAccess, withMode, withRefresh, remembered, nextStamps, isPoweredDown, isExiting, nextFirst, never};
+ghost use Rattle.stamps.specs.Stamps.{withAccess, withMode, withRefresh, remembered, nextStamps, never};
+ghost use Rattle.stamps.specs.Stamps.{isPoweredDown, isExiting, nextMet};
 
 pub struct Timestamps {
     // The first extended MRS word.
@@ -150,8 +151,8 @@ pub fn is_exiting(first: u32) -> bool
 }
 
 // What the word behind this one meets.
-pub fn next_first(first: u32, word: u32) -> u32
-    ensures { λ r. ⌜ r ≡ nextFirst first word ⌝ }
+pub fn next_met(first: u32, word: u32) -> u32
+    ensures { λ r. ⌜ r ≡ nextMet first word ⌝ }
 {
     let after_desl = choose(is_powered_down(first), EXITING, DESL);
     let driven = choose(!high(word, CS), word, after_desl);

@@ -1,5 +1,5 @@
 -- The theorem of specs/Walk. An advance with a word left is a step on that word, and any other leaves the state; so every state on the way
--- is one that steps make, and what is proved of stepping holds of a walk. Assumes nothing.
+-- is one that steps make, and what is proved of stepping holds of a walk.
 use Prim.Native.Nat.{ℕ, zero, suc, _+_, _≤_, _<_}
 use mathlib.Core.Path.{_≡_, refl, sym, _∙_, ap}
 use mathlib.Core.Bool.{Bool, true, false, cond}
@@ -19,10 +19,10 @@ use Rattle.config.proofs.Accepted.{config-19}
 use Rattle.rules.specs.Verdict.{Judgement, accepted, breach}
 use Rattle.rules.specs.Breaches.{wordBreach}
 use Rattle.consistency.specs.Consistency.{clockFits}
-use Rattle.protocol.specs.Steps.{Step, fresh, refusing, stepBy, stepOf}
-use Rattle.protocol.specs.Refinement.{follow, stepping, afterAll}
-use Rattle.protocol.specs.declared.checker.Checker.{Checker}
-use Rattle.protocol.proofs.Refinement.{refinement, cond-case}
+use Rattle.checker.specs.Steps.{Step, fresh, refusing, stepBy, stepOf}
+use Rattle.checker.specs.Refinement.{follow, stepping, afterAll}
+use Rattle.checker.specs.declared.checker.Checker.{Checker}
+use Rattle.checker.proofs.Refinement.{refinement, cond-case}
 use Rattle.walks.specs.Walk.{Reached, ended, Move, staying, ofWord, examined, atEnd, moveOf, advanced, unless, walking, stopOf}
 use Rattle.walks.specs.Walk.{CheckerCall, step, advance, afterCalls, Walk}
 
@@ -43,16 +43,17 @@ pub record StepKeeps (s : Checker) (r : Step) : Type 0 where
   pub limit : r .outcome ≡ value accepted → s .clock < 16777216
 
 keeps-refusing : (s : Checker) (n : ℕ) → StepKeeps s (refusing s n)
-keeps-refusing s n = record { config = refl; clock = omega arith; passes = λ e. absurd (refused-value e); limit = λ e. absurd (refused-value e) }
+keeps-refusing s n =
+    record { config = refl; clock = omega arith; passes = λ e. absurd (refused-value e); limit = λ e. absurd (refused-value e) }
 
 keeps-by : (o : Outcome Timing) (s : Checker) (w : ℕ) → StepKeeps s (stepBy o s w)
 keeps-by (refused n) s w = keeps-refusing s n
 keeps-by (value t) s w =
-    cond-case (StepKeeps s) (clockFits (s .clock) (s .first) (s .stamps)) _ _
+    cond-case (StepKeeps s) (clockFits (s .clock) (s .met) (s .stamps)) _ _
     (λ _. cond-case (StepKeeps s) (eqb (s .breach .number) 0) _ _
     (λ _. cond-case (StepKeeps s) (ltb (s .clock) 16777216) _ _
     (λ l. let h = ltb-true (s .clock) 16777216 l in
-    cond-case (StepKeeps s) (eqb (wordBreach t (s .stamps) (s .clock) (s .first) w) 0) _ _
+    cond-case (StepKeeps s) (eqb (wordBreach t (s .stamps) (s .clock) (s .met) w) 0) _ _
     (λ _. record { config = refl; clock = omega arith; passes = λ e. refl; limit = λ e. h })
     (λ _. record { config = refl; clock = omega arith; passes = λ e. cc; limit = λ e. h }))
     (λ _. keeps-refusing s 24))
@@ -132,9 +133,9 @@ module _ (c : Config) where
   step-19 s w m e = refinement .never-19 c (m .words) w (ap (λ x. stepOf x w .outcome) (sym (m .is)) ∙ e)
 
   ends : (t : Timing) (s : Checker) → timingOf c ≡ value t → Made s → atEnd s ≡ value ended
-  ends t s e m = go (clockFits (s .clock) (s .first) (s .stamps)) refl
+  ends t s e m = go (clockFits (s .clock) (s .met) (s .stamps)) refl
     where
-      go : (b : Bool) → clockFits (s .clock) (s .first) (s .stamps) ≡ b → atEnd s ≡ value ended
+      go : (b : Bool) → clockFits (s .clock) (s .met) (s .stamps) ≡ b → atEnd s ≡ value ended
       go true f = rw (m .config, e, f)
       go false f = absurd (step-19 s 0 m (rw (m .config, e, f)))
 
@@ -170,7 +171,9 @@ module _ (c : Config) where
 pub walk : Walk
 walk =
     record {
-      verdict = λ c t ws n e h l. walking-is c t e ws n (fresh c) (made-fresh c) (omega arith) (omega arith) ∙ ap stopped (refinement .verdict c t ws e h);
+      verdict =
+          λ c t ws n e h l. walking-is c t e ws n (fresh c) (made-fresh c) (omega arith) (omega arith)
+          ∙ ap stopped (refinement .verdict c t ws e h);
       end-there =
           λ c t ws n e h.
           let s = advanced n (fresh c) ws in

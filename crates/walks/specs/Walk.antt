@@ -6,14 +6,14 @@ use mathlib.Core.List.{List, [], _∷_}
 use lib.ListN.{length, getD}
 use lib.Dec.{ltb}
 use Rattle.basics.specs.Outcome.{Outcome, value, refused, require, given}
-use Rattle.basics.specs.Numbers.{refusalNumber}
+use Rattle.basics.specs.Numbers.{refusalNumber, limit}
 use Rattle.config.specs.Configuration.{timingOf}
 use Rattle.config.specs.declared.Config.{Config}
 use Rattle.config.specs.declared.Timing.{Timing}
 use Rattle.rules.specs.Verdict.{Judgement, accepted, breach, judge}
 use Rattle.consistency.specs.Consistency.{clockFits}
-use Rattle.protocol.specs.Steps.{Step, fresh, stepOf}
-use Rattle.protocol.specs.declared.checker.Checker.{Checker}
+use Rattle.checker.specs.Steps.{Step, fresh, stepOf}
+use Rattle.checker.specs.declared.checker.Checker.{Checker}
 use Rattle.walks.specs.declared.Moved.{Moved}
 use Rattle.walks.specs.declared.Progress.{Progress}
 use Rattle.walks.specs.declared.Progress.the-variants.{Passed, InBreach, Refused, End}
@@ -56,7 +56,7 @@ examined r = record { outcome = ofWord (r .outcome); after = r .after }
 
 -- with no word left: the sheet's refusals, then 19, then end, ahead of 23 and 24 (RULES 7.1)
 abbrev pub atEnd : Checker → Outcome Reached
-atEnd s = given (timingOf (s .config)) (λ _. require (clockFits (s .clock) (s .first) (s .stamps)) 19 (value ended))
+atEnd s = given (timingOf (s .config)) (λ _. require (clockFits (s .clock) (s .met) (s .stamps)) 19 (value ended))
 
 -- an advance: the word at the clock is judged as a step judges it, refusals included; with no word left nothing changes
 abbrev pub moveOf : Checker → List ℕ → Move
@@ -107,7 +107,7 @@ afterCalls s (x ∷ xs) = afterCalls (afterCall s x) xs
 pub record Walk : Type 0 where
   -- for every accepted configuration and every trace that the whole check takes: a fresh walk that is advanced until it does not pass, at
   -- the latest one advance after its last word, gives the published verdict
-  pub verdict : (c : Config) (t : Timing) (ws : List ℕ) (n : ℕ) → timingOf c ≡ value t → length ws ≤ 16777216 → length ws < n
+  pub verdict : (c : Config) (t : Timing) (ws : List ℕ) (n : ℕ) → timingOf c ≡ value t → length ws ≤ limit → length ws < n
       → walking n (fresh c) ws ≡ value (stopOf (judge t ws))
   -- it says end where its words have run out, and nowhere else
   pub end-there : (c : Config) (t : Timing) (ws : List ℕ) (n : ℕ) → timingOf c ≡ value t → advanced n (fresh c) ws .clock ≡ length ws

@@ -1,12 +1,12 @@
 // One advance of a walk over lent words (RULES 5.5), for whoever holds the words and the checker that it has reached.
 use basics::Refusal;
+use checker::Breach;
+use checker::Checker;
+use checker::Verdict;
 use config::TimingAnswer;
 use consistency::clock_fits;
-use protocol::Breach;
-use protocol::Checker;
-use protocol::Verdict;
 ghost use mathlib.Core.Path.{_≡_};
-ghost use Rattle.protocol.specs.Steps.{verdictOutcome};
+ghost use Rattle.checker.specs.Steps.{verdictOutcome};
 ghost use Rattle.walks.specs.Walk.{progressOutcome, ofWord, atEnd, MovePromised};
 
 // What an advance comes to.
@@ -42,7 +42,7 @@ fn at_end(checker: Checker) -> Progress
     match config.timing() {
         TimingAnswer::Refused(why) => Progress::Refused(why),
         TimingAnswer::Accepted(_) => {
-            if clock_fits(checker.clock, checker.first, stamps) {
+            if clock_fits(checker.clock, checker.met, stamps) {
                 Progress::End
             } else {
                 Progress::Refused(Refusal::State)

@@ -2,20 +2,20 @@
 use basics::LIMIT;
 use basics::Refusal;
 use breaches::word_breach;
+use checker::Breach;
+use checker::Verdict;
 use config::Config;
 use config::Timing;
 use config::TimingAnswer;
-use protocol::Breach;
-use protocol::Verdict;
 use stamps::DESL;
 use stamps::Timestamps;
-use stamps::next_first;
+use stamps::next_met;
 ghost use mathlib.Core.Path.{_≡_};
 ghost use Prim.Native.Nat.{_≤_};
 ghost use lib.ListN.{length};
 ghost use Rattle.basics.specs.Outcome.{value};
 ghost use Rattle.rules.specs.Verdict.{judge, checkOf};
-ghost use Rattle.protocol.specs.Steps.{verdictOutcome};
+ghost use Rattle.checker.specs.Steps.{verdictOutcome};
 
 fn judged(timing: Timing, words: &[u32]) -> Verdict
     requires { ⌜ length (now words) ≤ 16777216 ⌝ }
@@ -33,7 +33,7 @@ fn judged(timing: Timing, words: &[u32]) -> Verdict
             return Verdict::InBreach(Breach { clock, number });
         }
         stamps = stamps.after(four, clock, first, word);
-        first = next_first(first, word);
+        first = next_met(first, word);
         clock += 1;
     }
     Verdict::Accepted

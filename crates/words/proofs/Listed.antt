@@ -1,4 +1,4 @@
--- The word at an index is that place of the list of words. Assumes nothing.
+-- The word at an index is that place of the list of words.
 use Prim.Native.Nat.{ℕ, zero, suc, _+_, _*_, _/_, _<_}
 use mathlib.Core.Path.{_≡_, refl, sym, _∙_, ap}
 use mathlib.Core.List.{List, [], _∷_}
@@ -30,8 +30,12 @@ listed (a ∷ b ∷ c ∷ d ∷ rest) zero h = refl
 listed (a ∷ b ∷ c ∷ d ∷ rest) (suc i) h =
     let bytes = a ∷ b ∷ c ∷ d ∷ rest in
     listed rest i (omega arith)
-    ∙ rw
-    (place bytes (4 * suc i) (suc (suc (suc (suc (4 * i))))) (omega arith), place bytes (4 * suc i + 1) (suc (suc (suc (suc (4 * i + 1))))) (omega arith), place bytes (4 * suc i + 2) (suc (suc (suc (suc (4 * i + 2))))) (omega arith), place bytes (4 * suc i + 3) (suc (suc (suc (suc (4 * i + 3))))) (omega arith))
+    ∙ rw (
+      place bytes (4 * suc i) (suc (suc (suc (suc (4 * i))))) (omega arith),
+      place bytes (4 * suc i + 1) (suc (suc (suc (suc (4 * i + 1))))) (omega arith),
+      place bytes (4 * suc i + 2) (suc (suc (suc (suc (4 * i + 2))))) (omega arith),
+      place bytes (4 * suc i + 3) (suc (suc (suc (suc (4 * i + 3))))) (omega arith),
+    )
 
 pub word-listed : (bytes : List ℕ) (i : ℕ) → i < length bytes / 4 → wordAt bytes i ≡ getD (wordsOf bytes) i 0
 word-listed bytes i h = rw (lt-ltb i (length bytes / 4) h) (sym (listed bytes i h))

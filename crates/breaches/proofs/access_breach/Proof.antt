@@ -1,4 +1,4 @@
--- The tests that only an MRS or REF can meet are false at a LAL word. Assumes nothing.
+-- The tests that only an MRS or REF can meet are false at a LAL word.
 use Rattle.breaches.proofs.ByKind.{at-lal}
 use borrow.Author.Needs.{needs}
 use Rattle.breaches.proofs.access_breach.Statement.{statement}
@@ -72,7 +72,14 @@ returns c =
     let figures = opening .before .figures .ensures in
     let begun = opening .before .before in
     let a = begun .args in
-    rw (c .choose6 .ensures, c .before .choose5 .ensures, c .before .before .choose4 .ensures, c .before .before .before .choose3 .ensures, c .before .before .before .before .choose2 .ensures, c .before .before .before .before .before .choose .ensures)
+    rw (
+      c .choose6 .ensures,
+      c .before .choose5 .ensures,
+      c .before .before .choose4 .ensures,
+      c .before .before .before .choose3 .ensures,
+      c .before .before .before .before .choose2 .ensures,
+      c .before .before .before .before .before .choose .ensures,
+    )
     (at-lal (a .timing) (a .stamps) (a .clock) (a .first) (a .second) (begun .pre)
     (reserved .lane-reserved .ensures)
     (tested .before .before .before .before .unready .ensures)

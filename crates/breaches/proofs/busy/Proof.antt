@@ -1,4 +1,4 @@
--- Each spacing is its leaf's. Assumes nothing.
+-- Each spacing is its leaf's.
 use mathlib.Core.Bool.{and-true}
 use Prim.Native.Nat.{_/_}
 use borrow.Author.Needs.{needs}

@@ -1,4 +1,4 @@
--- By whether the closing word is LAL. Assumes nothing.
+-- By whether the closing word is LAL.
 use mathlib.Core.Path.{sym, _∙_}
 use borrow.Author.Needs.{needs}
 use Rattle.breaches.proofs.closing_breach.Statement.{statement}

@@ -1,4 +1,4 @@
--- The tests that only a read or write can meet are false at an MRS or REF word. Assumes nothing.
+-- The tests that only a read or write can meet are false at an MRS or REF word.
 use Rattle.breaches.proofs.ByKind.{at-other}
 use borrow.Author.Needs.{needs}
 use Rattle.breaches.proofs.mode_or_refresh_breach.Statement.{statement}
@@ -54,7 +54,14 @@ returns c =
     let figures = opening .before .figures .ensures in
     let begun = opening .before .before in
     let a = begun .args in
-    rw (c .choose5 .ensures, c .before .choose4 .ensures, c .before .before .choose3 .ensures, c .before .before .before .choose2 .ensures, c .before .before .before .before .choose .ensures, opening .high .ensures)
+    rw (
+      c .choose5 .ensures,
+      c .before .choose4 .ensures,
+      c .before .before .choose3 .ensures,
+      c .before .before .before .choose2 .ensures,
+      c .before .before .before .before .choose .ensures,
+      opening .high .ensures,
+    )
     (at-other (a .timing) (a .stamps) (a .clock) (a .first) (a .second) (begun .pre)
     (wrong .mode-wrong .ensures)
     (rw figures at (tested .before .before .before .near .ensures))

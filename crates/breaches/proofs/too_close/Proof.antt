@@ -1,4 +1,4 @@
--- Each spacing is its leaf's. Assumes nothing.
+-- Each spacing is its leaf's.
 use mathlib.Core.Bool.{not, and-true}
 use borrow.Author.Needs.{needs}
 use Rattle.breaches.proofs.Sums.{no-more}

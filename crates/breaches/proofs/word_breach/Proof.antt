@@ -1,4 +1,4 @@
--- Rules 1 to 3 first; then 4 to 12 where a pair is open, and 13 where none is. Assumes nothing.
+-- Rules 1 to 3 first; then 4 to 12 where a pair is open, and 13 where none is.
 use borrow.Author.Tests.{eq-eqb, ne-eqb}
 use mathlib.Core.Path.{_≡_, sym, _∙_, ap}
 use mathlib.Core.Bool.{true, false, not}
@@ -12,7 +12,12 @@ use Rattle.breaches.proofs.word_breach.Tie as tie
 -- the number of rules 1 to 3
 early : (c : tie.After-early-breach) → let a = c .before .before .before .before .before .args in
     c .early-breach .result ≡ earlyAt (a .timing) (a .stamps) (a .clock) (a .first) (a .word)
-early c = rw (c .before .wrongly-low .ensures, c .before .before .deadline .ensures, c .before .before .before .before .figures .ensures) at (c .early-breach .ensures)
+early c =
+    rw (
+      c .before .wrongly-low .ensures,
+      c .before .before .deadline .ensures,
+      c .before .before .before .before .figures .ensures,
+    ) at (c .early-breach .ensures)
 
 -- what the two tests tell
 none-early : (c : tie.Else1) → let a = c .before .before .before .before .before .before .args in

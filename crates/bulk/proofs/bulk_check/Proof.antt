@@ -1,4 +1,4 @@
--- The number of the published verdict. Assumes nothing.
+-- The number of the published verdict.
 use borrow.Author.Needs.{needs}
 use Rattle.bulk.proofs.bulk_check.Statement.{statement}
 use Rattle.bulk.proofs.bulk_check.Tie as tie

@@ -1,4 +1,4 @@
--- The two parts of the published answer. Assumes nothing.
+-- The two parts of the published answer.
 use mathlib.Core.Path.{_∙_, ap}
 use denote.Ref.{now}
 use borrow.Author.Needs.{needs}

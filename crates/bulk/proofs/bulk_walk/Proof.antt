@@ -1,4 +1,4 @@
--- The number of the walk's last answer. Assumes nothing.
+-- The number of the walk's last answer.
 use mathlib.Core.Path.{_∙_, ap}
 use Rattle.bulk.specs.Numbers.{walkNumber}
 use borrow.Author.Needs.{needs}

@@ -1,4 +1,4 @@
--- The number of one advance more, from the state that the walk has left. Assumes nothing.
+-- The number of one advance more, from the state that the walk has left.
 use mathlib.Core.Path.{_∙_, ap}
 use denote.Ref.{now}
 use Rattle.walks.specs.Walk.{moveOf}

@@ -1,4 +1,4 @@
--- The configuration's refusal, 29, 24, or the verdict. Assumes nothing.
+-- The configuration's refusal, 29, 24, or the verdict.
 use Prim.Native.Nat.{ℕ, _/_, _%_}
 use mathlib.Core.Path.{_≡_}
 use mathlib.Core.Bool.{true, false}

@@ -1,4 +1,4 @@
--- The judgement of the whole trace is that from the place reached; the words skimmed do not change it. Assumes nothing.
+-- The judgement of the whole trace is that from the place reached; the words skimmed do not change it.
 use Prim.Native.Nat.{ℕ, _-_, _/_, _≤_, _<_}
 use mathlib.Core.Path.{_≡_, sym, _∙_, ap}
 use mathlib.Core.List.{List}
@@ -64,7 +64,7 @@ passes c =
 -- at the end of the words
 ends : (t : Timing) (bytes : List ℕ) (p : Place) → judge t (wordsOf bytes) ≡ runFrom t (wordsOf bytes) p
     → length bytes / 4 ≤ p .clock → value accepted ≡ value (judge t (wordsOf bytes))
-ends t bytes p e h = ap value (sym (e ∙ run-ends t (p .stamps) (p .first) (wordsOf bytes) (p .clock) (rw (words-length bytes) h)))
+ends t bytes p e h = ap value (sym (e ∙ run-ends t (p .stamps) (p .met) (wordsOf bytes) (p .clock) (rw (words-length bytes) h)))
 
 figures-requires : tie.Need-figures-requires Inv-loop μ-loop
 figures-requires c κs = search needs
@@ -101,7 +101,7 @@ returns c =
     let w = tested .before in
     let p = at w in
     let stopped =
-    run-breaches (timing p) (place p .stamps) (place p .first) (wordsOf (bytes p)) (place p .clock) (inside w) (word w)
+    run-breaches (timing p) (place p .stamps) (place p .met) (wordsOf (bytes p)) (place p .clock) (inside w) (word w)
     (tested .word-breach .ensures) (c .if3 .taken) in
     ap value (sym (reached p ∙ stopped))
 

@@ -1,4 +1,4 @@
--- The table's entry is the published one, at the row that the grade chooses. Assumes nothing.
+-- The table's entry is the published one, at the row that the grade chooses.
 use lib.Dec.{eqb}
 use Rattle.config.proofs.Bounds.{row-bound}
 use borrow.Author.Needs.{needs}

@@ -1,4 +1,4 @@
--- The events are their leaf's, and so are the words before the next. Assumes nothing.
+-- The events are their leaf's, and so are the words before the next.
 use borrow.Author.Needs.{needs}
 use Rattle.consistency.proofs.clock_fits.Statement.{statement}
 use Rattle.consistency.proofs.clock_fits.Tie as tie

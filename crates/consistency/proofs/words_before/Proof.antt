@@ -1,4 +1,4 @@
--- Each test is its leaf's. Assumes nothing.
+-- Each test is its leaf's.
 use borrow.Author.Needs.{needs}
 use Rattle.consistency.proofs.words_before.Statement.{statement}
 use Rattle.consistency.proofs.words_before.Tie as tie

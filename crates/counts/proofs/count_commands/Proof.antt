@@ -1,4 +1,4 @@
--- The counts, or 30. Assumes nothing.
+-- The counts, or 30.
 use Prim.Native.Nat.{ℕ}
 use mathlib.Core.Path.{_≡_}
 use mathlib.Core.Bool.{true, false}

@@ -1,4 +1,4 @@
--- Each count grows by one bit. Assumes nothing.
+-- Each count grows by one bit.
 use native.Mathlib.Omega.{arith}
 use borrow.Author.Needs.{needs}
 use Rattle.counts.proofs.counted.Statement.{statement}

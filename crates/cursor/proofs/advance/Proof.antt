@@ -1,8 +1,8 @@
--- `advance` meets its contract: a walk of its MIR, by hand. The borrow is opened, the struct is taken apart, `next_word` is called on its words
--- and its checker, the checker returned is stored in the struct's cell, and the borrow is closed at the struct with that checker. All that
--- the proof knows of `next_word` is that it meets its contract. The struct is Copy: what it owns is had twice, one copy goes to the callee,
--- and the other is kept, with the facts of the other checker put in. Assumes nothing.
--- The locals of its MIR: _0 the result, _1 cursor, _2 moved, _3 the words, _4 the checker.
+-- `advance` meets its contract: a walk of its MIR, by hand. The borrow is opened, the struct is taken apart, `next_word` is called on its
+-- words and its checker, the checker returned is stored in the struct's cell, and the borrow is closed at the struct with that checker. All
+-- that the proof knows of `next_word` is that it meets its contract. The struct is Copy: what it owns is had twice, one copy goes to the
+-- callee, and the other is kept, with the facts of the other checker put in. The locals of its MIR: _0 the result, _1 cursor, _2 moved, _3
+-- the words, _4 the checker.
 use mathlib.Core.Path.{_≡_, refl}
 use Prim.Native.Nat.{ℕ}
 use mathlib.Core.List.{List, [], _∷_, _++_}
@@ -42,8 +42,8 @@ use denote.Triple.Entry.{onEntry}
 use denote.Triple.Spec.{tripleOf}
 use denote.Triple.Table.{cited}
 use denote.Triple.Walked.{says, Stays, stay-ref, walkOf, goes-ref, ends-at}
-use Rattle.protocol.proofs.checker.Checker as K
-use Rattle.protocol.proofs.checker.Checker.Laws as K′
+use Rattle.checker.proofs.checker.Checker as K
+use Rattle.checker.proofs.checker.Checker.Laws as K′
 use Rattle.walks.specs.Walk.{MovePromised}
 use Rattle.cursor.specs.declared.TraceCursor.{TraceCursor}
 use Rattle.walks.specs.declared.Moved.{Moved}
@@ -89,7 +89,9 @@ module _ {M : Type 1} (𝓤 : URA M) (H : Heap 𝓤) (A : Atoms 𝓤) (mem : Mem
     at = (vptr b o ∷ [], tt)
 
     abbrev Post : Val → SProp 𝓤
-    Post = walkOf 𝓤 H A advance.ended stayed (advance.clauses 𝓤 H A mem run) .post (((κ, (κ′, tt)), (q, (q′, tt)), bounds, (ref h, tt), at), tt)
+    Post =
+        walkOf 𝓤 H A advance.ended stayed (advance.clauses 𝓤 H A mem run) .post
+        (((κ, (κ′, tt)), (q, (q′, tt)), bounds, (ref h, tt), at), tt)
 
     -- the struct's fields' values, and the machine value of an answer
     abbrev vd : Values (D κ′ .parts)
@@ -133,7 +135,8 @@ module _ {M : Type 1} (𝓤 : URA M) (H : Heap 𝓤) (A : Atoms 𝓤) (mem : Mem
     exits : (m : Moved) → Is P.the-row (m .progress) (pv m ∷ []) → Found m
         → Sq W (‵ (MutRef (named 0) κ (Cursor κ′) .own (ref (h′ m)) (vptr b o ∷ [])) ∷ ‵ (flft κ q) ∷ Token ∷ []) (prop (Post (pv m)))
     exits m is e =
-        suffices ! _ (ends-at 𝓤 H A advance.ended stayed (advance.clauses 𝓤 H A mem run) W (((κ, (κ′, tt)), (q, (q′, tt)), bounds, (ref h, tt), at), tt)
+        suffices ! _
+        (ends-at 𝓤 H A advance.ended stayed (advance.clauses 𝓤 H A mem run) W (((κ, (κ′, tt)), (q, (q′, tt)), bounds, (ref h, tt), at), tt)
         (pv m) (m .progress) (h′ m, tt) (tt, tt)) $ says ! (refl, e) $
         move ! (1 ∷ 2 ∷ []) $ join ! $ frame ! $ nothing ! $ move ! (1 ∷ 0 ∷ []) $ fjoin ! $
         owned ! P.the-row (Is P.the-row) (progress-made 𝓤 H A) (m .progress) _ is $ move ! (1 ∷ 0 ∷ []) $ done !
@@ -143,47 +146,59 @@ module _ {M : Type 1} (𝓤 : URA M) (H : Heap 𝓤) (A : Atoms 𝓤) (mem : Mem
       module _ (bs : Blocks body.locals) where
         -- from the statement t on: Δ stands before the locals, which hold ss, and what entry left behind them is not needed
         abbrev From : Body → List (Item 𝓤) → List Content → Type 1
-        From t Δ ss = Sq W (Δ ++ (locals body.locals bs ss ++ (‵ ftrue ∷ []))) (runs C Λ (env 𝓤 H body.locals bs) t (atRet (env 𝓤 H body.locals bs) Post))
+        From t Δ ss =
+            Sq W (Δ ++ (locals body.locals bs ss ++ (‵ ftrue ∷ [])))
+            (runs C Λ (env 𝓤 H body.locals bs) t (atRet (env 𝓤 H body.locals bs) Post))
 
         -- the checker of the answer is stored in the struct, the borrow is closed, and the answer's progress is returned
         stores : (m : Moved) → Found m → Known N.the-type N′.the-laws m
-            → From body.t-4 (Token ∷ ‵ Own ∷ ‵ (fat fullShare (T′.mir erased) b o (cursorVal κ′ h)) ∷ ‵ (fobor κ q (Opened (laid (Cursor κ′)) b o γ))
+            → From body.t-4
+            (Token ∷ ‵ Own ∷ ‵ (fat fullShare (T′.mir erased) b o (cursorVal κ′ h)) ∷ ‵ (fobor κ q (Opened (laid (Cursor κ′)) b o γ))
             ∷ ‵ (fobs γ (Cursor κ′ .coded .code h)) ∷ ‵ (fauth γ (Cursor κ′ .coded .code h)) ∷ [])
-            (room ∷ holds (vptr b o) ∷ holds (LL.val N.the-type N′.the-laws m) ∷ holds (wordsVal (h .words)) ∷ holds (checkerVal (h .checker)) ∷ [])
+            (room ∷ holds (vptr b o) ∷ holds (LL.val N.the-type N′.the-laws m) ∷ holds (wordsVal (h .words)) ∷ holds
+            (checkerVal (h .checker)) ∷ [])
         stores m e is =
-            assigns ! (of-opd ! (held-field ! (cell 6 2) refl (sub ! 1 refl (whole !)))) (from ! (hop ! (look ! (cell 6 1) refl) (fld ! refl (stop !))))
+            assigns ! (of-opd ! (held-field ! (cell 6 2) refl (sub ! 1 refl (whole !))))
+            (from ! (hop ! (look ! (cell 6 1) refl) (fld ! refl (stop !))))
             (store-in ! 2 (sub ! 1 refl (whole !)) (typed W K.the-type K′.the-laws (m .checker) (parts m is .1))) $
-            sets ! (cell 6 0) refl (of-opd ! (held-field ! (cell 6 2) refl (sub ! 0 refl (whole !)))) (progress-typed W (m .progress) _ (parts m is .0)) $
+            sets ! (cell 6 0) refl (of-opd ! (held-field ! (cell 6 2) refl (sub ! 0 refl (whole !))))
+            (progress-typed W (m .progress) _ (parts m is .0)) $
             move ! (2 ∷ []) $ use1 W (‵ (cellAt fullShare (Cursor κ′ .mir) (cursorVal κ′ (h′ m) ∷ []) b o))
             (W .laws .at-raw fullShare (T′.mir erased) b o (cursorVal κ′ (h′ m))) $
             move ! (2 ∷ []) $ use1 W (‵ (Cursor κ′ .own (h′ m) (cursorVal κ′ (h′ m) ∷ [])))
             (changed W κ′ h (cursorVal κ′ h) (m .checker) (parts m is .1)) $ move ! (0 ∷ 1 ∷ 3 ∷ 4 ∷ 5 ∷ []) $
             closed ! tt (D κ′) (L κ′) (h′ m) $
-            returns ! (look ! (cell 3 0) refl) $ aside ! $ aside ! $ aside ! $ freed ! $ freed ! $ freed ! $ freed ! $ freed ! $ free0 ! $ drop ! $
+            returns !
+            (look ! (cell 3 0) refl) $ aside ! $ aside ! $ aside ! $ freed ! $ freed ! $ freed ! $ freed ! $ freed ! $ free0 ! $ drop ! $
             exits m (parts m is .0) e
 
         -- the words and the checker are read from the struct, and `next_word` is called on them
         calls : Is (Cursor κ′) h (cursorVal κ′ h ∷ [])
-            → From body.t-1 (‵ (fat fullShare (T′.mir erased) b o (cursorVal κ′ h)) ∷ ‵ Own ∷ ‵ (fobor κ q (Opened (laid (Cursor κ′)) b o γ))
+            → From body.t-1
+            (‵ (fat fullShare (T′.mir erased) b o (cursorVal κ′ h)) ∷ ‵ Own ∷ ‵ (fobor κ q (Opened (laid (Cursor κ′)) b o γ))
             ∷ ‵ (fobs γ (Cursor κ′ .coded .code h)) ∷ ‵ (fauth γ (Cursor κ′ .coded .code h)) ∷ Token ∷ []) (room ∷ holds (vptr b o) ∷ [])
         calls was =
-            sets ! (cell 6 3) refl (of-opd ! (load ! (from ! (hop ! (look ! (cell 6 1) refl) (fld ! refl (stop !)))) (look-in ! 0 (sub ! 0 refl (whole !)))))
+            sets ! (cell 6 3) refl
+            (of-opd ! (load ! (from ! (hop ! (look ! (cell 6 1) refl) (fld ! refl (stop !)))) (look-in ! 0 (sub ! 0 refl (whole !)))))
             (tt, cursor-typed W erased κ′ h _ was .1 .0) $
-            sets ! (cell 6 4) refl (of-opd ! (load ! (from ! (hop ! (look ! (cell 6 1) refl) (fld ! refl (stop !)))) (look-in ! 0 (sub ! 1 refl (whole !)))))
+            sets ! (cell 6 4) refl
+            (of-opd ! (load ! (from ! (hop ! (look ! (cell 6 1) refl) (fld ! refl (stop !)))) (look-in ! 0 (sub ! 1 refl (whole !)))))
             (typed W K.the-type K′.the-laws (h .checker) (checker-is κ′ h was)) $
             move ! (1 ∷ 5 ∷ []) $ use2 W (raw (NextWord .pre to) ⊛ ‵ Own) (apart .prf) $ split ! $
             calls-at ! fm NextWord known to (and-then ! (held ! (cell 6 3) refl) (and-then ! (held ! (cell 6 4) refl) (no-more !))) (λ u.
             told ! u N.the-type N′.the-laws Token next.ended (κ′, tt) (h .words, (h .checker, tt)) Found (λ m e is. drop ! $
             lands-in ! (cell 6 2) refl (moved-typed W m _ is) $ stores m e is))
 
-      walk : ent 𝓤 (onEntry 𝓤 H A advance.signature (κ, (κ′, tt)) (q, (q′, tt)) (ref h, tt) at) (WpFn 𝓤 H C Λ code.function (vptr b o ∷ []) Post)
+      walk : ent 𝓤 (onEntry 𝓤 H A advance.signature (κ, (κ′, tt)) (q, (q′, tt)) (ref h, tt) at)
+          (WpFn 𝓤 H C Λ code.function (vptr b o ∷ []) Post)
       walk =
           qed W ((‵ (flft κ q) ⊛ Token) ∷ ‵ (owns (MutRef (named 0) κ (Cursor κ′) ∷ []) (ref h, tt) at) ∷ []) ∵
           split ! $ move ! (2 ∷ []) $ fsplit ! $ move ! (0 ∷ 2 ∷ 3 ∷ []) $
           begins ! C Λ code.function (vptr b o ∷ []) _ ((tt, tt), tt) (λ bs.
           -- the borrow is opened
           move ! (cell 0 5 ∷ cell 1 5 ∷ cell 2 5 ∷ []) $ opened ! tt (D κ′) (L κ′) h (λ was.
-          move ! (1 ∷ []) $ use1 W (‵ (fat fullShare (T′.mir erased) b o (cursorVal κ′ h))) (W .laws .raw-at fullShare (T′.mir erased) b o (cursorVal κ′ h)) $
+          move ! (1 ∷ []) $ use1 W (‵ (fat fullShare (T′.mir erased) b o (cursorVal κ′ h)))
+          (W .laws .raw-at fullShare (T′.mir erased) b o (cursorVal κ′ h)) $
           calls bs was))
 
 pub advance-spec : {M : Type 1} → stated.statement M

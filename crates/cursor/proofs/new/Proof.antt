@@ -1,7 +1,7 @@
 -- `new` meets its contract: a walk of its MIR, by hand. `Checker::fresh` is called on the configuration, and a `TraceCursor` is made of the
--- slice passed and of the checker returned, in the result's local. A `&[u32]` is Copy, so what it owns is had twice: once for words at exit,
--- and once inside the result. A configuration owns only facts, which are made anew for the call. Assumes nothing.
--- The locals of its MIR: _0 the result, _1 words, _2 the configuration, _3 the checker.
+-- slice passed and of the checker returned, in the result's local. A `&[u32]` is Copy, so what it owns is had twice: once for words at
+-- exit, and once inside the result. A configuration owns only facts, which are made anew for the call. The locals of its MIR: _0 the
+-- result, _1 words, _2 the configuration, _3 the checker.
 use mathlib.Core.Path.{_≡_, refl}
 use Prim.Native.Nat.{ℕ}
 use mathlib.Core.List.{List, [], _∷_}
@@ -38,14 +38,14 @@ use denote.Exit.{yes}
 use Rattle.config.specs.declared.Config.{Config}
 use Rattle.config.proofs.Config as F
 use Rattle.config.proofs.Config.Laws as F′
-use Rattle.protocol.specs.Steps.{fresh}
-use Rattle.protocol.specs.declared.checker.Checker.{Checker}
-use Rattle.protocol.proofs.checker.Checker as K
-use Rattle.protocol.proofs.checker.Checker.Laws as K′
-use Rattle.protocol.proofs.checker.Checker.fresh as fresh-fn
-use Rattle.protocol.proofs.checker.Checker.fresh.Symbol as fresh-def
-use Rattle.protocol.proofs.checker.Checker.fresh.Symbol.{name as #fresh}
-use Rattle.protocol.proofs.checker.Checker.fresh.Met as fresh-thm
+use Rattle.checker.specs.Steps.{fresh}
+use Rattle.checker.specs.declared.checker.Checker.{Checker}
+use Rattle.checker.proofs.checker.Checker as K
+use Rattle.checker.proofs.checker.Checker.Laws as K′
+use Rattle.checker.proofs.checker.Checker.fresh as fresh-fn
+use Rattle.checker.proofs.checker.Checker.fresh.Symbol as fresh-def
+use Rattle.checker.proofs.checker.Checker.fresh.Symbol.{name as #fresh}
+use Rattle.checker.proofs.checker.Checker.fresh.Met as fresh-thm
 use Rattle.cursor.specs.declared.TraceCursor.{TraceCursor}
 use Rattle.borrowed.proofs.Locals.{cell, begins, aside, freed, held, sets, lands-in}
 use Rattle.borrowed.proofs.Behind.{typed, owned-data, told, reached}
@@ -122,9 +122,12 @@ unfolding code.routine
 new-spec 𝓤 H 𝓜 𝓖 𝓡 =
     let W = givenOf 𝓤 H 𝓜 𝓖 in
     let known = cited 𝓤 H (Fresh 𝓤 H (𝓖 .A) (𝓜 .mem) (𝓡 .run)) 𝓜 𝓡 code.env #fresh fresh-def.routine
-    code.calls-protocol·checker·Checker·fresh (fresh-thm.met 𝓤 H 𝓜 𝓖 𝓡) in
-    reached 𝓤 H 𝓜 𝓖 𝓡 new.ended code.env stayed
-    (goes-none-slice 𝓤 H (𝓖 .A) W 1 (0 ∷ []) tt (plain (λ _. u32)) yes, (goes-none 𝓤 H (𝓖 .A) W 1 (λ _. F.the-row) yes (λ κs x f. refl), tt))
+    code.calls-checker·checker·Checker·fresh (fresh-thm.met 𝓤 H 𝓜 𝓖 𝓡) in
+    reached 𝓤 H 𝓜 𝓖 𝓡 new.ended code.env stayed (
+      goes-none-slice 𝓤 H (𝓖 .A) W 1 (0 ∷ []) tt (plain (λ _. u32)) yes,
+      (goes-none 𝓤 H (𝓖 .A) W 1 (λ _. F.the-row) yes (λ κs x f. refl), tt),
+    )
     (new.clauses 𝓤 H (𝓖 .A) (𝓜 .mem) (𝓡 .run)) #new code.function (code.unfolded 𝓤 H 𝓜 𝓡)
-    (λ κs. (slice-vals, (LL.vals F.the-type F′.the-laws, tt))) (λ κs. (shr-slice-tells (named 0) (κs .0) u32, (LL.tells F.the-type F′.the-laws, tt)))
+    (λ κs. (slice-vals, (LL.vals F.the-type F′.the-laws, tt)))
+    (λ κs. (shr-slice-tells (named 0) (κs .0) u32, (LL.tells F.the-type F′.the-laws, tt)))
     (λ fm κs qs bounds a g are. walk 𝓤 H (𝓖 .A) (𝓜 .mem) (𝓡 .run) W (κs .0) (qs .0) (a .0) (a .1 .0) _ _ fm known (are .0) (are .1 .0))

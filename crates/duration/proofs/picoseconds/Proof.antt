@@ -1,4 +1,4 @@
--- The product is at most that of the two bounds. Assumes nothing.
+-- The product is at most that of the two bounds.
 use Prim.Native.Nat.{ℕ, _*_, _≤_}
 use mathlib.Core.Path.{refl}
 use native.Mathlib.Omega.{arith}

@@ -1,4 +1,4 @@
--- By the sheet's case, and of an accepted one by the test of 32. Assumes nothing.
+-- By the sheet's case, and of an accepted one by the test of 32.
 use Prim.Native.Nat.{ℕ, _≤_}
 use mathlib.Core.Path.{_≡_, sym, _∙_, ap}
 use native.Mathlib.Omega.{arith}

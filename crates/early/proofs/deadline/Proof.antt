@@ -1,4 +1,4 @@
--- The invariant: the places from m on are 0, and so do not count. Assumes nothing.
+-- The invariant: the places from m on are 0, and so do not count.
 use Prim.Native.Nat.{ℕ, suc, _+_, _-_, _*_, _≤_}
 use mathlib.Core.Path.{_≡_, refl, sym, _∙_}
 use mathlib.Core.List.{List}

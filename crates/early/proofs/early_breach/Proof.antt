@@ -1,4 +1,4 @@
--- Each test is the definition's. Assumes nothing.
+-- Each test is the definition's.
 use borrow.Author.Needs.{needs}
 use Rattle.early.proofs.early_breach.Statement.{statement}
 use Rattle.early.proofs.early_breach.Tie as tie

@@ -1,4 +1,4 @@
--- The verdict is the published one, and small. Assumes nothing.
+-- The verdict is the published one, and small.
 use denote.Ref.{now}
 use Rattle.fcram.proofs.Bounded.{answer-small}
 use borrow.Author.Needs.{needs}

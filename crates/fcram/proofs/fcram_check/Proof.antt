@@ -1,4 +1,4 @@
--- The verdict on the configuration of these numbers. Assumes nothing.
+-- The verdict on the configuration of these numbers.
 use borrow.Author.Needs.{needs}
 use Rattle.fcram.proofs.fcram_check.Statement.{statement}
 use Rattle.fcram.proofs.fcram_check.Tie as tie

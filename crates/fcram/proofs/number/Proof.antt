@@ -1,4 +1,4 @@
--- By the verdict's case; the bound is the caller's. Assumes nothing.
+-- By the verdict's case; the bound is the caller's.
 use native.Mathlib.Omega.{arith}
 use borrow.Author.Needs.{needs}
 use Rattle.fcram.proofs.number.Statement.{statement}

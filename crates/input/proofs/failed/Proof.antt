@@ -1,4 +1,4 @@
--- By the sign of the number that the machine reads back from the answer's bits. Assumes nothing.
+-- By the sign of the number that the machine reads back from the answer's bits.
 use Prim.Native.Nat.{zero-le}
 use mathlib.Core.Path.{_≡_, refl}
 use borrow.Author.Tests.{le-ltb}

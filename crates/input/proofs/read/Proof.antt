@@ -1,4 +1,4 @@
--- The invariant: at most the buffer's length was read. Each turn reads at least one byte. Assumes nothing.
+-- The invariant: at most the buffer's length was read. Each turn reads at least one byte.
 use Prim.Native.Nat.{_-_, _≤_}
 use mathlib.Core.Path.{_≡_}
 use mathlib.Core.Bool.{false≢true}

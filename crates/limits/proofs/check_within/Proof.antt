@@ -1,4 +1,4 @@
--- The refusal of either sheet, or what both come to. Assumes nothing.
+-- The refusal of either sheet, or what both come to.
 use mathlib.Core.Path.{_≡_, sym, _∙_, ap}
 use borrow.Author.Needs.{needs}
 use Rattle.basics.specs.Outcome.{value}

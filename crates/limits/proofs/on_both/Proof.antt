@@ -1,4 +1,4 @@
--- 35, or what both sheets come to, by the first one's case. Assumes nothing.
+-- 35, or what both sheets come to, by the first one's case.
 use Prim.Native.Nat.{ℕ}
 use mathlib.Core.Path.{_≡_}
 use mathlib.Core.Bool.{true, _&&_}

@@ -1,4 +1,4 @@
--- By the verdict's case. Assumes nothing.
+-- By the verdict's case.
 use borrow.Author.Needs.{needs}
 use Rattle.limits.proofs.on_sheet.Statement.{statement}
 use Rattle.limits.proofs.on_sheet.Tie as tie

@@ -1,4 +1,4 @@
--- The text is within its array. Assumes nothing.
+-- The text is within its array.
 use mathlib.Core.Path.{_≡_, sym}
 use native.Mathlib.Omega.{arith}
 use lib.ListN.{length}

@@ -1,4 +1,4 @@
--- One less, or 0 where none waits. Assumes nothing.
+-- One less, or 0 where none waits.
 use Prim.Native.Nat.{_-_}
 use mathlib.Core.Path.{_≡_}
 use native.Mathlib.Omega.{arith}

@@ -1,4 +1,4 @@
--- The invariant: all fit if those fit that are left. Assumes nothing.
+-- The invariant: all fit if those fit that are left. A turn leaves one less (`Waiting`).
 use Prim.Native.Nat.{_+_, _-_, _≤_}
 use mathlib.Core.Path.{_≡_, refl, _∙_}
 use mathlib.Core.Bool.{_&&_}
@@ -20,7 +20,9 @@ abbrev μ-loop : tie.MeasureT-loop
 μ-loop timing count waiting end i₀ i = end - i
 
 -- what is left at a turn fits if its request does and those behind it do
-turn : (c : tie.In-loop Inv-loop μ-loop) → let a = c .before .before .before .args in let l = c .before .loop in allFit (a .timing) (take (a .count) (a .t2)) ≡ requestFits (a .timing) (getD (a .t2) (l .i) vacant) && allFit (a .timing) (drop (l .i + 1) (take (a .count) (a .t2)))
+turn : (c : tie.In-loop Inv-loop μ-loop) → let a = c .before .before .before .args in let l = c .before .loop in
+    let first = take (a .count) (a .t2) in
+    allFit (a .timing) first ≡ requestFits (a .timing) (getD (a .t2) (l .i) vacant) && allFit (a .timing) (drop (l .i + 1) first)
 turn c =
     let a = c .before .before .before .args in
     c .before .loop .inv .1 ∙ fits-from (a .timing) (a .t2) (a .count) (c .before .loop .i) (omega arith) (omega arith)
@@ -44,7 +46,9 @@ request-fits-requires : tie.Need-request-fits-requires Inv-loop μ-loop
 request-fits-requires c κs = search needs
 
 returns : tie.Need-returns Inv-loop μ-loop
-returns c = rw (turn (c .before .before .before), ← c .before .request-fits .ensures, not-true (c .before .request-fits .result) (c .if1 .taken))
+returns c =
+    let known = c .before .request-fits in
+    rw (turn (c .before .before .before), ← known .ensures, not-true (known .result) (c .if1 .taken))
 
 add-i : tie.Need-add-i Inv-loop μ-loop
 add-i c = search needs
@@ -53,7 +57,9 @@ loop-less : tie.Need-loop-less Inv-loop μ-loop
 loop-less c = search needs
 
 loop-again : tie.Need-loop-again Inv-loop μ-loop
-loop-again c = (search needs, rw (turn (c .before .before .before), ← c .before .request-fits .ensures, not-false (c .before .request-fits .result) (c .if1 .left)))
+loop-again c =
+    let known = c .before .request-fits in
+    (search needs, rw (turn (c .before .before .before), ← known .ensures, not-false (known .result) (c .if1 .left)))
 
 returns-2 : tie.Need-returns-2 Inv-loop μ-loop
 returns-2 c =

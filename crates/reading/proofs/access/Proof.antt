@@ -1,4 +1,4 @@
--- Each field is what its leaf gives. Assumes nothing.
+-- Each field is what its leaf gives.
 use borrow.Author.Needs.{needs}
 use Rattle.reading.proofs.access.Statement.{statement}
 use Rattle.reading.proofs.access.Tie as tie
@@ -41,8 +41,20 @@ kept-requires-2 c κs = search needs
 
 returns : tie.Need-returns
 returns c =
-    rw
-    (c .kept2 .ensures .0, c .before .kept .ensures .0, c .before .before .column .ensures, c .before .before .before .row .ensures, c .before .before .before .before .bank .ensures .0, c .before .before .before .before .before .lane2 .ensures, c .before .before .before .before .before .before .high4 .ensures, c .before .before .before .before .before .before .before .high3 .ensures, c .before .before .before .before .before .before .before .before .lane .ensures, c .before .before .before .before .before .before .before .before .before .high2 .ensures, c .before .before .before .before .before .before .before .before .before .before .high .ensures, c .before .before .before .before .before .before .before .before .before .before .before .before .before .figures .ensures)
+    rw (
+      c .kept2 .ensures .0,
+      c .before .kept .ensures .0,
+      c .before .before .column .ensures,
+      c .before .before .before .row .ensures,
+      c .before .before .before .before .bank .ensures .0,
+      c .before .before .before .before .before .lane2 .ensures,
+      c .before .before .before .before .before .before .high4 .ensures,
+      c .before .before .before .before .before .before .before .high3 .ensures,
+      c .before .before .before .before .before .before .before .before .lane .ensures,
+      c .before .before .before .before .before .before .before .before .before .high2 .ensures,
+      c .before .before .before .before .before .before .before .before .before .before .high .ensures,
+      c .before .before .before .before .before .before .before .before .before .before .before .before .before .figures .ensures,
+    )
 
 pub access-spec : {M : Type 1} → statement M
 access-spec =

@@ -1,4 +1,4 @@
--- The test picks the case. Assumes nothing.
+-- The test picks the case.
 use Rattle.reading.proofs.column.Statement.{statement}
 use Rattle.reading.proofs.column.Tie as tie
 

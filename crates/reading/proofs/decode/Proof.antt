@@ -1,4 +1,4 @@
--- LAL makes an access; otherwise RDA makes a mode and WRA a refresh. Assumes nothing.
+-- LAL makes an access; otherwise RDA makes a mode and WRA a refresh.
 use mathlib.Core.Path.{_≡_, sym, _∙_}
 use mathlib.Core.Bool.{true, false}
 use Rattle.command.specs.Pairs.{rda, lal}

@@ -1,4 +1,4 @@
--- Each pin is its leaf's. Assumes nothing.
+-- Each pin is its leaf's.
 use borrow.Author.Needs.{needs}
 use Rattle.reading.proofs.lane_reserved.Statement.{statement}
 use Rattle.reading.proofs.lane_reserved.Tie as tie
@@ -27,7 +27,15 @@ high-requires-6 c κs = search needs
 returns : tie.Need-returns
 returns c =
     let pins = c .before .before in
-    rw (pins .high6 .ensures, pins .before .high5 .ensures, pins .before .before .high4 .ensures, pins .before .before .before .high3 .ensures, pins .before .before .before .before .high2 .ensures, pins .before .before .before .before .before .high .ensures, pins .before .before .before .before .before .before .figures .ensures)
+    rw (
+      pins .high6 .ensures,
+      pins .before .high5 .ensures,
+      pins .before .before .high4 .ensures,
+      pins .before .before .before .high3 .ensures,
+      pins .before .before .before .before .high2 .ensures,
+      pins .before .before .before .before .before .high .ensures,
+      pins .before .before .before .before .before .before .figures .ensures,
+    )
 
 pub lane-reserved-spec : {M : Type 1} → statement M
 lane-reserved-spec =

@@ -1,4 +1,4 @@
--- The test picks the case. Assumes nothing.
+-- The test picks the case.
 use borrow.Author.Needs.{needs}
 use Rattle.reading.proofs.mode.Statement.{statement}
 use Rattle.reading.proofs.mode.Tie as tie

@@ -1,4 +1,4 @@
--- Each pin, and the register test, is its leaf's. Assumes nothing.
+-- Each pin, and the register test, is its leaf's.
 use borrow.Author.Needs.{needs}
 use Rattle.reading.proofs.mode_wrong.Statement.{statement}
 use Rattle.reading.proofs.mode_wrong.Tie as tie
@@ -16,7 +16,8 @@ high-requires-3 : tie.Need-high-requires-3
 high-requires-3 c κs = search needs
 
 returns : tie.Need-returns
-returns c = rw (c .high3 .ensures, c .before .high2 .ensures, c .before .before .register-fits .ensures, c .before .before .before .high .ensures)
+returns c =
+    rw (c .high3 .ensures, c .before .high2 .ensures, c .before .before .register-fits .ensures, c .before .before .before .high .ensures)
 
 pub mode-wrong-spec : {M : Type 1} → statement M
 mode-wrong-spec =

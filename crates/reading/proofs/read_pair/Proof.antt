@@ -1,4 +1,4 @@
--- The configuration's refusal, 28, or the operation. Assumes nothing.
+-- The configuration's refusal, 28, or the operation.
 use borrow.Author.Needs.{needs}
 use Rattle.reading.proofs.read_pair.Statement.{statement}
 use Rattle.reading.proofs.read_pair.Tie as tie
@@ -22,10 +22,23 @@ returns : tie.Need-returns
 returns c = rw (← c .before .before .before .timing .ensures, c .before .why .given .1)
 
 returns-2 : tie.Need-returns-2
-returns-2 c = rw (c .decode .ensures, ← c .before .before .before .before .before .before .timing .ensures, c .before .before .before .before .timing2 .given .1, ← c .before .before .sound-pair .ensures, c .before .if1 .taken)
+returns-2 c =
+    rw (
+      c .decode .ensures,
+      ← c .before .before .before .before .before .before .timing .ensures,
+      c .before .before .before .before .timing2 .given .1,
+      ← c .before .before .sound-pair .ensures,
+      c .before .if1 .taken,
+    )
 
 returns-3 : tie.Need-returns-3
-returns-3 c = rw (← c .before .before .before .before .before .timing .ensures, c .before .before .before .timing2 .given .1, ← c .before .sound-pair .ensures, c .if1 .left)
+returns-3 c =
+    rw (
+      ← c .before .before .before .before .before .timing .ensures,
+      c .before .before .before .timing2 .given .1,
+      ← c .before .sound-pair .ensures,
+      c .if1 .left,
+    )
 
 pub read-pair-spec : {M : Type 1} → statement M
 read-pair-spec =

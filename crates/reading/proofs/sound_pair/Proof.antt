@@ -1,4 +1,4 @@
--- Each pin, and each of the two breaches, is its leaf's. Assumes nothing.
+-- Each pin, and each of the two breaches, is its leaf's.
 use borrow.Author.Needs.{needs}
 use Rattle.reading.proofs.sound_pair.Statement.{statement}
 use Rattle.reading.proofs.sound_pair.Tie as tie
@@ -19,7 +19,14 @@ high-requires-3 : tie.Need-high-requires-3
 high-requires-3 c κs = search needs
 
 returns : tie.Need-returns
-returns c = rw (c .high3 .ensures, c .before .high2 .ensures, c .before .before .high .ensures, c .before .before .before .lane-reserved .ensures, c .before .before .before .before .mode-wrong .ensures)
+returns c =
+    rw (
+      c .high3 .ensures,
+      c .before .high2 .ensures,
+      c .before .before .high .ensures,
+      c .before .before .before .lane-reserved .ensures,
+      c .before .before .before .before .mode-wrong .ensures,
+    )
 
 pub sound-pair-spec : {M : Type 1} → statement M
 sound-pair-spec =

@@ -1,4 +1,4 @@
--- The index grows with each call, so the script ends. Assumes nothing.
+-- The index grows with each call, so the script ends.
 use Prim.Native.Nat.{_-_, _/_}
 use native.Mathlib.Omega.{arith}
 use borrow.Author.Needs.{needs}

@@ -1,4 +1,4 @@
--- One case for each test. Assumes nothing.
+-- One case for each test, in the order of the start-up and of what follows it.
 use Prim.Native.Nat.{ℕ, _+_}
 use mathlib.Core.Path.{_≡_}
 use mathlib.Core.Bool.{Bool, true, false, _||_}
@@ -11,15 +11,12 @@ use Rattle.stamps.specs.declared.Timestamps.{Timestamps}
 use Rattle.scheduler.proofs.next_pair.Statement.{statement}
 use Rattle.scheduler.proofs.next_pair.Tie as tie
 
--- the start, from each of the first two tests and from the last two
+-- the start, from each of the first two tests
 abbrev at-1 : tie.After-struct-known → tie.Start
 at-1 c = c .before .before .before .before
 
 abbrev at-2 : tie.After-struct-known2 → tie.Start
 at-2 c = at-1 (c .before .before)
-
-abbrev at-4 : tie.Else3 → tie.Start
-at-4 c = at-2 (c .before .before)
 
 -- the contract's test for a refresh
 abbrev due : Timestamps → ℕ → ℕ → ℕ → Bool
@@ -38,21 +35,17 @@ no-regular c = eq-eqb (at-2 (c .before) .args .stamps .regular) 0 (omega arith)
 regular : (c : tie.Else2) → eqb (at-2 (c .before) .args .stamps .regular) 0 ≡ false
 regular c = ne-eqb (at-2 (c .before) .args .stamps .regular) 0 (c .if2 .left)
 
-not-due : (c : tie.Else3) → let d = c .before .before .before .before .before in let a = d .before .before .before .args in due (a .stamps) (a .timing .refi) (a .clock) (a .timing .rc) ≡ false
+not-due : (c : tie.Else3) → let d = c .before .before .before .before .before in let a = d .before .before .before .args in
+    due (a .stamps) (a .timing .refi) (a .clock) (a .timing .rc) ≡ false
 not-due c =
     let d = c .before .before .before .before .before in
     rw (d .refresh-due .ensures, d .before .before .figures .ensures) at (c .if3 .left)
 
-is-due : (c : tie.Then3) → let d = c .before .before .before .before .before in let a = d .before .before .before .args in due (a .stamps) (a .timing .refi) (a .clock) (a .timing .rc) ≡ true
+is-due : (c : tie.Then3) → let d = c .before .before .before .before .before in let a = d .before .before .before .args in
+    due (a .stamps) (a .timing .refi) (a .clock) (a .timing .rc) ≡ true
 is-due c =
     let d = c .before .before .before .before .before in
     rw (d .refresh-due .ensures, d .before .before .figures .ensures) at (c .if3 .taken)
-
-none-waits : (c : tie.Then4) → eqb (at-4 (c .before) .args .count) 0 ≡ true
-none-waits c = eq-eqb (at-4 (c .before) .args .count) 0 (omega arith)
-
-one-waits : (c : tie.Else4) → eqb (at-4 (c .before) .args .count) 0 ≡ false
-one-waits c = ne-eqb (at-4 (c .before) .args .count) 0 (c .if4 .left)
 
 figures-requires : tie.Need-figures-requires
 figures-requires c κs = search needs
@@ -76,14 +69,7 @@ returns-3 : tie.Need-returns-3
 returns-3 c = rw (extended (c .before .before .before), regular (c .before), is-due c)
 
 returns-4 : tie.Need-returns-4
-returns-4 c =
-    let e = c .before .before in
-    rw (extended (e .before .before), regular e, not-due (c .before), none-waits c)
-
-returns-5 : tie.Need-returns-5
-returns-5 c =
-    let e = c .before .before in
-    rw (extended (e .before .before), regular e, not-due (c .before), one-waits c)
+returns-4 c = rw (extended (c .before .before .before), regular (c .before), not-due c)
 
 pub next-pair-spec : {M : Type 1} → statement M
 next-pair-spec =
@@ -96,5 +82,4 @@ next-pair-spec =
     returns-2
     array-read-if3
     returns-3
-    returns-4
-    returns-5)
+    returns-4)

@@ -1,4 +1,4 @@
--- One case for each variant. Assumes nothing.
+-- One case for each variant.
 use borrow.Author.Needs.{needs}
 use Rattle.scheduler.proofs.pair_words.Statement.{statement}
 use Rattle.scheduler.proofs.pair_words.Tie as tie

@@ -1,4 +1,4 @@
--- Each pin is its leaf's. Assumes nothing.
+-- Each pin is its leaf's.
 use borrow.Author.Needs.{needs}
 use Rattle.stamps.proofs.is_exiting.Statement.{statement}
 use Rattle.stamps.proofs.is_exiting.Tie as tie

@@ -1,4 +1,4 @@
--- The configuration's refusal, 19, or end. Assumes nothing.
+-- The configuration's refusal, 19, or end.
 use borrow.Author.Needs.{needs}
 use Rattle.walks.proofs.at_end.Statement.{statement}
 use Rattle.walks.proofs.at_end.Tie as tie
@@ -19,10 +19,22 @@ returns : tie.Need-returns
 returns c = rw (← c .before .before .before .timing .ensures, c .before .why .given .1)
 
 returns-2 : tie.Need-returns-2
-returns-2 c = rw (← c .before .before .before .before .timing .ensures, c .before .before .enum-told .given .1, ← c .before .clock-fits .ensures, c .if1 .taken)
+returns-2 c =
+    rw (
+      ← c .before .before .before .before .timing .ensures,
+      c .before .before .enum-told .given .1,
+      ← c .before .clock-fits .ensures,
+      c .if1 .taken,
+    )
 
 returns-3 : tie.Need-returns-3
-returns-3 c = rw (← c .before .before .before .before .timing .ensures, c .before .before .enum-told .given .1, ← c .before .clock-fits .ensures, c .if1 .left)
+returns-3 c =
+    rw (
+      ← c .before .before .before .before .timing .ensures,
+      c .before .before .enum-told .given .1,
+      ← c .before .clock-fits .ensures,
+      c .if1 .left,
+    )
 
 pub at-end-spec : {M : Type 1} → statement M
 at-end-spec =

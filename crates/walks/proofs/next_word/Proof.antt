@@ -1,4 +1,4 @@
--- A step on the word at the clock, or what is answered with no word left. Assumes nothing.
+-- A step on the word at the clock, or what is answered with no word left.
 use borrow.Author.Needs.{needs}
 use borrow.Author.Tests.{lt-ltb, le-ltb}
 use Rattle.walks.proofs.next_word.Statement.{statement}

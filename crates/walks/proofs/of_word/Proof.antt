@@ -1,4 +1,4 @@
--- By the verdict's cases. Assumes nothing.
+-- By the verdict's cases.
 use borrow.Author.Needs.{needs}
 use Rattle.walks.proofs.of_word.Statement.{statement}
 use Rattle.walks.proofs.of_word.Tie as tie

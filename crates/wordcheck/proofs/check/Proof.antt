@@ -1,4 +1,4 @@
--- The configuration's refusal, 24, or the verdict. Assumes nothing.
+-- The configuration's refusal, 24, or the verdict.
 use Prim.Native.Nat.{ℕ}
 use mathlib.Core.Path.{_≡_}
 use mathlib.Core.Bool.{true, false}
@@ -40,7 +40,13 @@ returns : tie.Need-returns
 returns c = rw (← c .before .before .before .timing .ensures, c .before .why .given .1)
 
 returns-2 : tie.Need-returns-2
-returns-2 c = rw (c .judged .ensures, ← c .before .before .before .before .before .timing .ensures, c .before .before .before .timing2 .given .1, short (c .before))
+returns-2 c =
+    rw (
+      c .judged .ensures,
+      ← c .before .before .before .before .before .timing .ensures,
+      c .before .before .before .timing2 .given .1,
+      short (c .before),
+    )
 
 returns-3 : tie.Need-returns-3
 returns-3 c = rw (← c .before .before .before .before .timing .ensures, c .before .before .timing2 .given .1, long c)

@@ -1,4 +1,4 @@
--- The invariant: the verdict on the whole trace is that of a run over what is kept, from the clock on. Assumes nothing.
+-- The invariant: the verdict on the whole trace is that of a run over what is kept, from the clock on.
 use Prim.Native.Nat.{_-_, _≤_}
 use mathlib.Core.Path.{_≡_, refl, sym, _∙_, ap}
 use native.Mathlib.Omega.{arith}
@@ -48,13 +48,16 @@ returns : tie.Need-returns Inv-loop μ-loop
 returns c =
     let l = c .before .before .before .before .loop in
     let a = c .before .before .before .before .before .before .before .before .args in
-    ap value (sym (l .inv .1 ∙ run-breaches (a .timing) (l .stamps) (l .first) (now (a .words)) (l .clock) (c .before .before .before .loop-test .taken) refl (c .before .word-breach .ensures) (c .if1 .taken)))
+    ap value
+    (sym
+    (l .inv .1 ∙ run-breaches (a .timing) (l .stamps) (l .first) (now (a .words)) (l .clock)
+    (c .before .before .before .loop-test .taken) refl (c .before .word-breach .ensures) (c .if1 .taken)))
 
 after-requires : tie.Need-after-requires Inv-loop μ-loop
 after-requires c κs = search needs
 
-next-first-requires : tie.Need-next-first-requires Inv-loop μ-loop
-next-first-requires c κs = search needs
+next-met-requires : tie.Need-next-met-requires Inv-loop μ-loop
+next-met-requires c κs = search needs
 
 add-clock : tie.Need-add-clock Inv-loop μ-loop
 add-clock c = omega arith
@@ -70,7 +73,8 @@ loop-again c =
     let a = w .before .before .before .before .before .before .before .args in (
       omega arith,
       l .inv .1
-          ∙ run-passes (a .timing) (l .stamps) (l .first) (now (a .words)) (l .clock) (w .before .before .loop-test .taken) refl (w .word-breach .ensures) (c .before .before .if1 .left) (rw figures at (c .before .after .ensures)) (c .next-first .ensures),
+          ∙ run-passes (a .timing) (l .stamps) (l .first) (now (a .words)) (l .clock) (w .before .before .loop-test .taken) refl
+          (w .word-breach .ensures) (c .before .before .if1 .left) (rw figures at (c .before .after .ensures)) (c .next-met .ensures),
     )
 
 returns-2 : tie.Need-returns-2 Inv-loop μ-loop
@@ -95,7 +99,7 @@ judged-spec =
     word-breach-requires
     returns
     after-requires
-    next-first-requires
+    next-met-requires
     add-clock
     loop-less
     loop-again

@@ -1,4 +1,4 @@
--- The four bytes where the word is whole, and otherwise 0. Assumes nothing.
+-- The four bytes where the word is whole, and otherwise 0.
 use borrow.Author.Tests.{lt-ltb, le-ltb}
 use native.Mathlib.Omega.{arith}
 use native.Mathlib.Nat.{add-zero}
@@ -57,8 +57,17 @@ returns c =
     let a = c .before .before .before .before .before .before .before .args in
     let at = 4 * a .index in
     let bytes = now (a .bytes) in
-    rw
-    (lt-ltb _ _ (c .before .before .before .before .before .if1 .taken), c .before .before .before .byte .ensures .0, c .before .before .byte2 .ensures .0, c .before .byte3 .ensures .0, c .byte4 .ensures .0, take-all (length bytes - at) (drop at bytes) (omega (arith, length-drop at bytes)))
+    rw (
+      lt-ltb _ _ (c .before .before .before .before .before .if1 .taken),
+      c .before .before .before .byte .ensures .0,
+      c .before .before .byte2 .ensures .0,
+      c .before .byte3 .ensures .0,
+      c .byte4 .ensures .0,
+      take-all (length bytes - at) (drop at bytes) (omega (
+        arith,
+        length-drop at bytes,
+      )),
+    )
     (simp (getD-drop, add-zero))
 
 returns-2 : tie.Need-returns-2

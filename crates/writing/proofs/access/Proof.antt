@@ -1,4 +1,4 @@
--- Each pin is driven as published. Assumes nothing.
+-- Each pin is driven as published.
 use native.Mathlib.Omega.{arith}
 use borrow.Author.Needs.{needs}
 use Rattle.writing.proofs.access.Statement.{statement}
@@ -45,8 +45,13 @@ add-t19 c = omega arith
 
 returns : tie.Need-returns
 returns c =
-    rw
-    (c .before .address .ensures .0, c .before .before .bit .ensures .0, c .before .before .before .before .lane2 .ensures .0, c .before .before .before .before .before .before .lane .ensures .0, c .before .before .before .before .before .before .before .before .before .figures .ensures)
+    rw (
+      c .before .address .ensures .0,
+      c .before .before .bit .ensures .0,
+      c .before .before .before .before .lane2 .ensures .0,
+      c .before .before .before .before .before .before .lane .ensures .0,
+      c .before .before .before .before .before .before .before .before .before .figures .ensures,
+    )
 
 pub access-spec : {M : Type 1} → statement M
 access-spec =

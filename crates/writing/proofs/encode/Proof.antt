@@ -1,4 +1,4 @@
--- One case for each variant. Assumes nothing.
+-- One case for each variant.
 use native.Mathlib.Omega.{arith}
 use borrow.Author.Needs.{needs}
 use Rattle.writing.proofs.encode.Statement.{statement}

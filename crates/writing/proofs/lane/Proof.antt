@@ -1,4 +1,4 @@
--- A pin's level times its weight is the weight where the pin is high. Assumes nothing.
+-- A pin's level times its weight is the weight where the pin is high.
 use Prim.Native.Nat.{ℕ, _*_}
 use mathlib.Core.Path.{_≡_}
 use mathlib.Core.Bool.{Bool, true, false, cond}
@@ -26,7 +26,13 @@ kept-requires-3 c κs = search needs
 
 returns : tie.Need-returns
 returns c = (
-  rw (c .kept3 .ensures .0, c .before .before .kept .ensures .0, c .before .kept2 .ensures .0, weighed _ (c .before .before .before .args .vw0), weighed _ (c .before .before .before .args .vw1)),
+  rw (
+    c .kept3 .ensures .0,
+    c .before .before .kept .ensures .0,
+    c .before .kept2 .ensures .0,
+    weighed _ (c .before .before .before .args .vw0),
+    weighed _ (c .before .before .before .args .vw1),
+  ),
   omega arith,
 )
 

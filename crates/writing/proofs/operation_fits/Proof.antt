@@ -1,4 +1,4 @@
--- One case for each variant. Assumes nothing.
+-- One case for each variant.
 use borrow.Author.Needs.{needs}
 use Rattle.writing.proofs.operation_fits.Statement.{statement}
 use Rattle.writing.proofs.operation_fits.Tie as tie

@@ -1,4 +1,4 @@
--- Each test is the definition's. Assumes nothing.
+-- Each test is the definition's.
 use borrow.Author.Needs.{needs}
 use Rattle.writing.proofs.request_fits.Statement.{statement}
 use Rattle.writing.proofs.request_fits.Tie as tie

@@ -1,4 +1,4 @@
--- The configuration's refusal, 26, or the pair. Assumes nothing.
+-- The configuration's refusal, 26, or the pair.
 use borrow.Author.Needs.{needs}
 use Rattle.writing.proofs.write_pair.Statement.{statement}
 use Rattle.writing.proofs.write_pair.Tie as tie
@@ -22,10 +22,23 @@ returns : tie.Need-returns
 returns c = rw (← c .before .before .before .timing .ensures, c .before .why .given .1)
 
 returns-2 : tie.Need-returns-2
-returns-2 c = rw (c .encode .ensures, ← c .before .before .before .before .before .before .timing .ensures, c .before .before .before .before .timing2 .given .1, ← c .before .before .operation-fits .ensures, c .before .if1 .taken)
+returns-2 c =
+    rw (
+      c .encode .ensures,
+      ← c .before .before .before .before .before .before .timing .ensures,
+      c .before .before .before .before .timing2 .given .1,
+      ← c .before .before .operation-fits .ensures,
+      c .before .if1 .taken,
+    )
 
 returns-3 : tie.Need-returns-3
-returns-3 c = rw (← c .before .before .before .before .before .timing .ensures, c .before .before .before .timing2 .given .1, ← c .before .operation-fits .ensures, c .if1 .left)
+returns-3 c =
+    rw (
+      ← c .before .before .before .before .before .timing .ensures,
+      c .before .before .before .timing2 .given .1,
+      ← c .before .operation-fits .ensures,
+      c .if1 .left,
+    )
 
 pub write-pair-spec : {M : Type 1} → statement M
 write-pair-spec =

@@ -1,7 +1,7 @@
--- `offer` meets its contract: a walk of its MIR, by hand. The borrow is opened, the controller is copied out, `Controller::offer` is called on
--- the copy and the request, and the borrow is closed at the controller that the call hands back. `Behind` has what `tick`'s walk shares.
--- All that the proof knows of `Controller::offer` is that it meets its contract. Assumes nothing.
--- The locals of its MIR: _0 the answer, _1 controller, _2 request, _3 offered, _4 the copy of the controller.
+-- `offer` meets its contract: a walk of its MIR, by hand. The borrow is opened, the controller is copied out, `Controller::offer` is called
+-- on the copy and the request, and the borrow is closed at the controller that the call hands back. `Behind` has what `tick`'s walk shares.
+-- All that the proof knows of `Controller::offer` is that it meets its contract. The locals of its MIR: _0 the answer, _1 controller, _2
+-- request, _3 offered, _4 the copy of the controller.
 use mathlib.Core.Path.{_≡_, refl}
 use Prim.Native.Nat.{ℕ}
 use mathlib.Core.List.{List, [], _∷_}
@@ -109,14 +109,17 @@ module _ {M : Type 1} (𝓤 : URA M) (H : Heap 𝓤) (A : Atoms 𝓤) (mem : Mem
     exits : (r : Offered) → offered r ≡ offerOf h request → Known S.the-type S′.the-laws r
         → Sq W (‵ (MutRef (named 0) κ T.the-row .own (ref (r .controller)) (vptr b o ∷ [])) ∷ ‵ (flft κ q) ∷ []) (prop (Post (out r)))
     exits r e is =
-        suffices ! _ (ends-at 𝓤 H A offer.ended stayed (offer.clauses 𝓤 H A mem run) W (((κ, tt), (q, tt), tt, (ref h, (request, tt)), at), tt)
+        suffices ! _
+        (ends-at 𝓤 H A offer.ended stayed (offer.clauses 𝓤 H A mem run) W (((κ, tt), (q, tt), tt, (ref h, (request, tt)), at), tt)
         (out r) (r .answer) (r .controller, (tt, tt)) (tt, (tt, tt))) $
         says ! e $ nothing ! $ move ! (2 ∷ 0 ∷ []) $ join ! $ frame ! $ nothing ! $
         owned-data ! Q.the-type Q′.the-plain request _ request-is $ fjoin ! $ move ! (1 ∷ 0 ∷ []) $ fjoin ! $
-        owned ! G.the-row (Is G.the-row) (EL.makes G.the-type G′.the-plain 𝓤 H A) (r .answer) _ (answer-is r is) $ move ! (1 ∷ 0 ∷ []) $ done !
+        owned ! G.the-row (Is G.the-row) (EL.makes G.the-type G′.the-plain 𝓤 H A) (r .answer) _ (answer-is r is) $ move !
+        (1 ∷ 0 ∷ []) $ done !
 
     module _ (C : Calls 𝓤 H) (Λ : Loops 𝓤 H) (fm : FmC 𝓤 H (W .laws) C) (known : Triple 𝓤 (C #callee) Callee) where
-      walk : ent 𝓤 (onEntry 𝓤 H A offer.signature (κ, tt) (q, tt) (ref h, (request, tt)) at) (WpFn 𝓤 H C Λ code.function (vptr b o ∷ asked ∷ []) Post)
+      walk : ent 𝓤 (onEntry 𝓤 H A offer.signature (κ, tt) (q, tt) (ref h, (request, tt)) at)
+          (WpFn 𝓤 H C Λ code.function (vptr b o ∷ asked ∷ []) Post)
       walk =
           qed W ((‵ (flft κ q) ⊛ ‵ ftrue) ∷ ‵ (owns (MutRef (named 0) κ T.the-row ∷ Q.the-row ∷ []) (ref h, (request, tt)) at) ∷ []) ∵
           split ! $ move ! (2 ∷ []) $ fsplit ! $ move ! (0 ∷ 2 ∷ []) $
@@ -128,7 +131,8 @@ module _ {M : Type 1} (𝓤 : URA M) (H : Heap 𝓤) (A : Atoms 𝓤) (mem : Mem
           (typed W T.the-type T′.the-laws h is₀) $
           use1 W (raw (Callee .pre to)) (goes .prf) $
           calls-at ! fm Callee known to (and-then ! (held ! (cell 5 4) refl) (and-then ! (held ! (cell 5 2) refl) (no-more !))) (λ v.
-          told ! v S.the-type S′.the-laws (‵ ftrue) callee.ended tt (h, (request, tt)) (λ r. offered r ≡ offerOf h request) (λ r e is. drop ! $ drop ! $
+          told ! v S.the-type S′.the-laws (‵ ftrue) callee.ended tt (h, (request, tt)) (λ r. offered r ≡ offerOf h request)
+          (λ r e is. drop ! $ drop ! $
           -- [the controller's cell; the open borrow; obs; auth]
           lands-in ! (cell 4 3) refl (typed W S.the-type S′.the-laws r is) $
           assigns ! (of-opd ! (held-field ! (cell 4 3) refl (sub ! 1 refl (whole !)))) (from ! (hop ! (look ! (cell 4 1) refl) (stop !)))
@@ -150,6 +154,8 @@ offer-spec 𝓤 H 𝓜 𝓖 𝓡 =
     reached 𝓤 H 𝓜 𝓖 𝓡 offer.ended code.env stayed
     (goes-ref 𝓤 H (𝓖 .A) W 1 0 tt (plain (λ _. T.the-row)), (goes-none 𝓤 H (𝓖 .A) W 1 (λ _. Q.the-row) yes (λ κs x f. refl), tt))
     (offer.clauses 𝓤 H (𝓖 .A) (𝓜 .mem) (𝓡 .run)) #offer code.function (code.unfolded 𝓤 H 𝓜 𝓡)
-    (λ κs. (ptr-vals, (LL.vals Q.the-type Q′.the-laws, tt))) (λ κs. (mut-tells (named 0) (κs .0) T.the-row, (LL.tells Q.the-type Q′.the-laws, tt)))
+    (λ κs. (ptr-vals, (LL.vals Q.the-type Q′.the-laws, tt)))
+    (λ κs. (mut-tells (named 0) (κs .0) T.the-row, (LL.tells Q.the-type Q′.the-laws, tt)))
     (λ fm κs qs bounds a g are.
-    walk 𝓤 H (𝓖 .A) (𝓜 .mem) (𝓡 .run) W (κs .0) (qs .0) (a .0 .ptr .0) (a .0 .ptr .1) (a .0 .name) (a .0 .now) (a .1 .0) (are .1 .0) _ _ fm known)
+    walk 𝓤 H (𝓖 .A) (𝓜 .mem) (𝓡 .run) W (κs .0) (qs .0) (a .0 .ptr .0) (a .0 .ptr .1) (a .0 .name) (a .0 .now) (a .1 .0)
+    (are .1 .0) _ _ fm known)

@@ -1,7 +1,7 @@
--- `tick` meets its contract: a walk of its MIR, by hand. The borrow is opened, the controller is copied out, `Controller::tick` is called on
--- the copy, and the borrow is closed at the controller that the call hands back. `Behind` has what `offer`'s walk shares.
--- All that the proof knows of `Controller::tick` is that it meets its contract. Assumes nothing.
--- The locals of its MIR: _0 the answer and word, _1 controller, _2 ticked, _3 the copy of the controller.
+-- `tick` meets its contract: a walk of its MIR, by hand. The borrow is opened, the controller is copied out, `Controller::tick` is called
+-- on the copy, and the borrow is closed at the controller that the call hands back. `Behind` has what `offer`'s walk shares. All that the
+-- proof knows of `Controller::tick` is that it meets its contract. The locals of its MIR: _0 the answer and word, _1 controller, _2 ticked,
+-- _3 the copy of the controller.
 use mathlib.Core.Path.{_≡_, refl}
 use Prim.Native.Nat.{ℕ}
 use mathlib.Core.List.{List, [], _∷_}
@@ -111,7 +111,8 @@ module _ {M : Type 1} (𝓤 : URA M) (H : Heap 𝓤) (A : Atoms 𝓤) (mem : Mem
           qed W ((‵ (flft κ q) ⊛ ‵ ftrue) ∷ ‵ (owns (MutRef (named 0) κ T.the-row ∷ []) (ref h, tt) at) ∷ []) ∵
           split ! $ move ! (2 ∷ []) $ fsplit ! $ move ! (0 ∷ 2 ∷ []) $
           -- [what the reference owns; the token; true; true]
-          begins ! C Λ code.function (vptr b o ∷ []) _ ((tt, tt), tt) (λ bs. move ! (cell 0 4 ∷ cell 1 4 ∷ []) $ opened ! tt T.the-type T′.the-laws h (λ is₀.
+          begins ! C Λ code.function (vptr b o ∷ []) _ ((tt, tt), tt)
+          (λ bs. move ! (cell 0 4 ∷ cell 1 4 ∷ []) $ opened ! tt T.the-type T′.the-laws h (λ is₀.
           -- [what the controller owns; its cell; the open borrow; obs; auth]
           sets ! (cell 5 3) refl (of-opd ! (load ! (from ! (hop ! (look ! (cell 5 1) refl) (stop !))) (look-raw ! 1 refl)))
           (typed W T.the-type T′.the-laws h is₀) $
@@ -123,11 +124,13 @@ module _ {M : Type 1} (𝓤 : URA M) (H : Heap 𝓤) (A : Atoms 𝓤) (mem : Mem
           assigns ! (of-opd ! (held-field ! (cell 4 2) refl (sub ! 2 refl (whole !)))) (from ! (hop ! (look ! (cell 4 1) refl) (stop !)))
           (store-raw ! 0 refl (typed W T.the-type T′.the-laws (r .controller) (after-is r is))) $
           sets ! (cell 4 0) refl (agg ! (and-then ! (held-field ! (cell 4 2) refl (sub ! 0 refl (whole !)))
-          (and-then ! (held-field ! (cell 4 2) refl (sub ! 1 refl (whole !))) (no-more !)))) (typed W G.the-type G′.the-laws (given r) (given-is r is)) $
+          (and-then ! (held-field ! (cell 4 2) refl (sub ! 1 refl (whole !)))
+          (no-more !)))) (typed W G.the-type G′.the-laws (given r) (given-is r is)) $
           owned-data ! T.the-type T′.the-plain (r .controller) _ (after-is r is) $
           closed ! tt T.the-type T′.the-laws (r .controller) $
           -- [what the reference owns; the token]
-          returns ! (look ! (cell 2 0) refl) $ aside ! $ aside ! $ freed ! $ freed ! $ freed ! $ freed ! $ free0 ! $ keep ! (2 ∷ 3 ∷ []) $ exits r e is))))
+          returns ! (look ! (cell 2 0) refl) $ aside ! $ aside ! $ freed ! $ freed ! $ freed ! $ freed ! $ free0 ! $ keep !
+          (2 ∷ 3 ∷ []) $ exits r e is))))
 
 pub tick-spec : {M : Type 1} → stated.statement M
 unfolding code.routine

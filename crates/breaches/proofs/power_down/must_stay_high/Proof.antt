@@ -1,4 +1,4 @@
--- Each spacing is its leaf's. Assumes nothing.
+-- Each spacing is its leaf's.
 use borrow.Author.Needs.{needs}
 use Rattle.breaches.proofs.power_down.must_stay_high.Statement.{statement}
 use Rattle.breaches.proofs.power_down.must_stay_high.Tie as tie

@@ -1,4 +1,4 @@
--- Each pin is its leaf's. Assumes nothing.
+-- Each pin is its leaf's.
 use borrow.Author.Needs.{needs}
 use Rattle.breaches.proofs.power_down.selected_at_exit.Statement.{statement}
 use Rattle.breaches.proofs.power_down.selected_at_exit.Tie as tie

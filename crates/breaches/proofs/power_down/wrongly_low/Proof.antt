@@ -1,4 +1,4 @@
--- By whether PD is low; then each test is its leaf's. Assumes nothing.
+-- By whether PD is low; then each test is its leaf's.
 use mathlib.Core.Path.{sym, _∙_}
 use borrow.Author.Needs.{needs}
 use Rattle.breaches.proofs.power_down.wrongly_low.Statement.{statement}

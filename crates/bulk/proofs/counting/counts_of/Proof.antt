@@ -1,4 +1,4 @@
--- The counts of either variant are its own. Assumes nothing.
+-- The counts of either variant are its own.
 use borrow.Author.Needs.{needs}
 use Rattle.bulk.proofs.counting.counts_of.Statement.{statement}
 use Rattle.bulk.proofs.counting.counts_of.Tie as tie

@@ -1,4 +1,4 @@
--- By the answer's case. Assumes nothing.
+-- By the answer's case.
 use borrow.Author.Needs.{needs}
 use Rattle.bulk.proofs.counting.number_of.Statement.{statement}
 use Rattle.bulk.proofs.counting.number_of.Tie as tie

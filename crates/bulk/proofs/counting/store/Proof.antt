@@ -1,4 +1,4 @@
--- Each place is within the list, which keeps its length over a store. Assumes nothing.
+-- Each place is within the list, which keeps its length over a store.
 use Prim.Native.Nat.{_≤_, _<_}
 use native.Mathlib.Omega.{arith}
 use lib.ListN.{length, length-set}

@@ -1,4 +1,4 @@
--- The numbers are of 32 bits, so nothing wraps. Assumes nothing.
+-- The numbers are of 32 bits, so nothing wraps.
 use borrow.Author.Needs.{needs}
 use Rattle.bulk.proofs.number.of_breach.Statement.{statement}
 use Rattle.bulk.proofs.number.of_breach.Tie as tie

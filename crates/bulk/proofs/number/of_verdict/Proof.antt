@@ -1,4 +1,4 @@
--- By the verdict's case. Assumes nothing.
+-- By the verdict's case.
 use borrow.Author.Needs.{needs}
 use Rattle.bulk.proofs.number.of_verdict.Statement.{statement}
 use Rattle.bulk.proofs.number.of_verdict.Tie as tie

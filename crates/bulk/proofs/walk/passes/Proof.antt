@@ -1,4 +1,4 @@
--- By the answer's case. Assumes nothing.
+-- By the answer's case.
 use borrow.Author.Needs.{needs}
 use Rattle.bulk.proofs.walk.passes.Statement.{statement}
 use Rattle.bulk.proofs.walk.passes.Tie as tie

@@ -1,4 +1,4 @@
--- From a fresh checker. Assumes nothing.
+-- From a fresh checker.
 use borrow.Author.Needs.{needs}
 use Rattle.bulk.proofs.walk.walk.Statement.{statement}
 use Rattle.bulk.proofs.walk.walk.Tie as tie

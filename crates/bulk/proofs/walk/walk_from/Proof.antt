@@ -1,4 +1,4 @@
--- The invariant: what is left of the walk gives what the whole of it gives. Assumes nothing.
+-- The invariant: what is left of the walk gives what the whole of it gives.
 use mathlib.Core.Path.{_≡_, refl, sym, _∙_}
 use Rattle.bulk.specs.Walks.{walkFrom}
 use Rattle.bulk.proofs.Turns.{stops, leads}

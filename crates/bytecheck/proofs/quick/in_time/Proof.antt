@@ -1,29 +1,26 @@
--- By whether there was a REF word, and whether the last clock is within the trace. Assumes nothing.
-use Prim.Native.Nat.{ℕ, _≤_}
-use mathlib.Core.Path.{_≡_}
-use mathlib.Core.Bool.{false, not, and-false}
+-- Before the clock that comes too late.
 use native.Mathlib.Omega.{arith}
 use borrow.Author.Needs.{needs}
-use borrow.Author.Tests.{le-ltb}
-use lib.Dec.{eqb}
-use Rattle.rules.specs.Breaches.{overdue}
 use Rattle.bytecheck.proofs.quick.in_time.Statement.{statement}
 use Rattle.bytecheck.proofs.quick.in_time.Tie as tie
 
-up-to : (last k : ℕ) → k ≤ last → overdue last k ≡ false
-up-to last k h = rw (le-ltb last k h) (and-false (not (eqb last 0)))
+figures-requires : tie.Need-figures-requires
+figures-requires c κs = search needs
+
+deadline-requires : tie.Need-deadline-requires
+deadline-requires c κs = search needs
+
+late-from-requires : tie.Need-late-from-requires
+late-from-requires c κs = search needs
+
+lesser-requires : tie.Need-lesser-requires
+lesser-requires c κs = search needs
 
 returns : tie.Need-returns
-returns c = (search needs, λ k h. rw (c .if1 .taken))
-
-add-result : tie.Need-add-result
-add-result c = search needs
-
-returns-2 : tie.Need-returns-2
-returns-2 c = (search needs, λ k h. up-to (c .before .before .args .last) k (omega arith))
-
-returns-3 : tie.Need-returns-3
-returns-3 c = (search needs, λ k h. up-to (c .before .before .args .last) k (omega arith))
+returns c =
+    let late = c .before in
+    let due = rw (late .before .deadline .ensures, late .before .before .before .figures .ensures) at (late .late-from .ensures) in
+    (c .lesser .ensures .1, λ k h. due k (omega (arith, c .lesser .ensures .0)))
 
 pub in-time-spec : {M : Type 1} → statement M
-in-time-spec = tie.close (tie.spec returns add-result returns-2 returns-3)
+in-time-spec = tie.close (tie.spec figures-requires deadline-requires late-from-requires lesser-requires returns)

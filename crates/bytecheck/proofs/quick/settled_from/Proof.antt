@@ -1,4 +1,4 @@
--- Each test is false from its own clock on, and so from the latest of them. Assumes nothing.
+-- Each test is false from its own clock on, and so from the latest of them.
 use Prim.Native.Nat.{_+_}
 use native.Mathlib.Omega.{arith}
 use lib.ListN.{getD}
@@ -26,14 +26,14 @@ array-read-plus c = search needs
 plus-requires-2 : tie.Need-plus-requires-2
 plus-requires-2 c κs = search needs
 
-later-requires : tie.Need-later-requires
-later-requires c κs = search needs
+greater-requires : tie.Need-greater-requires
+greater-requires c κs = search needs
 
 plus-requires-3 : tie.Need-plus-requires-3
 plus-requires-3 c κs = search needs
 
-later-requires-2 : tie.Need-later-requires-2
-later-requires-2 c κs = search needs
+greater-requires-2 : tie.Need-greater-requires-2
+greater-requires-2 c κs = search needs
 
 returns-2 : tie.Need-returns-2
 returns-2 c k h from =
@@ -59,7 +59,7 @@ settled-from-spec =
     plus-requires
     array-read-plus
     plus-requires-2
-    later-requires
+    greater-requires
     plus-requires-3
-    later-requires-2
+    greater-requires-2
     returns-2)

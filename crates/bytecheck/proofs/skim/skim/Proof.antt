@@ -1,7 +1,6 @@
--- Each turn passes DESL words, a sleep, or the two words of a read or write. The timestamps that the two deadlines go by stay as
--- they are. Assumes nothing.
+-- Each turn passes reads and writes, and then DESL words or a sleep. The timestamps that the two deadlines go by stay as they are.
 use Prim.Native.Nat.{ℕ, _+_, _-_, _/_, _^_, _<_}
-use mathlib.Core.Path.{_≡_, refl, _∙_}
+use mathlib.Core.Path.{_≡_, refl, _∙_, ap}
 use mathlib.Core.List.{List}
 use native.Mathlib.Omega.{arith}
 use borrow.Author.Needs.{needs}
@@ -9,14 +8,15 @@ use borrow.Author.Tests.{not-false}
 use lib.ListN.{length, getD}
 use denote.Ref.{now}
 use Rattle.config.specs.declared.Timing.{Timing}
+use Rattle.config.specs.declared.figures.Figures.{Figures}
+use Rattle.command.specs.Address.{bankOf}
 use Rattle.stamps.specs.declared.Timestamps.{Timestamps}
-use Rattle.command.specs.Pins.{high}
 use Rattle.words.specs.Words.{wordsOf}
 use Rattle.words.proofs.Listed.{words-length, word-listed}
 use Rattle.bytecheck.specs.Passed.{Passes, Passed, none, more}
 use Rattle.bytecheck.specs.Quick.{SettledFrom, InTime, idleAt}
 use Rattle.bytecheck.specs.declared.place.Place.{Place}
-use Rattle.bytecheck.proofs.Passing.{opening-passes, accessed, access-passes, passed-on}
+use Rattle.bytecheck.proofs.Passing.{opening-passes, accessed, access-passes, passed-on, passed-onward, passed-inside}
 use Rattle.bytecheck.proofs.skim.skim.Statement.{statement}
 use Rattle.bytecheck.proofs.skim.skim.Tie as tie
 
@@ -28,34 +28,50 @@ record Skimming (t : Timing) (bytes : List ℕ) (from at : Place) (end settled :
   due : InTime t (at .stamps) end
   calm : SettledFrom t (at .stamps) settled
 
+-- from where its turn starts
+abbrev Inv-loop2 : tie.InvT-loop2
+Inv-loop2 timing bytes start four end settled stamps₀ clock₀ stamps clock =
+    Skimming timing bytes (idleAt clock₀ stamps₀) (idleAt clock stamps) end settled
+
+abbrev μ-loop2 : tie.MeasureT-loop2
+μ-loop2 timing bytes start four end settled stamps₀ clock₀ stamps clock = end - clock
+
 abbrev Inv-loop : tie.InvT-loop
-Inv-loop timing bytes start four stamps₀ end settled clock₀ stamps clock =
+Inv-loop timing bytes start four end settled stamps₀ clock₀ stamps clock =
     Skimming timing bytes (idleAt start stamps₀) (idleAt clock stamps) end settled
 
 abbrev μ-loop : tie.MeasureT-loop
-μ-loop timing bytes start four stamps₀ end settled clock₀ stamps clock = end - clock
+μ-loop timing bytes start four end settled stamps₀ clock₀ stamps clock = length bytes / 4 - clock
 
--- where a turn starts
-module _ (l : tie.At-loop Inv-loop μ-loop) where
+-- where a turn for a read or write starts
+module _ (l : tie.At-loop2 Inv-loop2 μ-loop2 Inv-loop μ-loop) where
+  abbrev turn : tie.At-loop Inv-loop2 μ-loop2 Inv-loop μ-loop
+  turn = l .before
+
   abbrev timing : Timing
-  timing = l .before .before .before .before .before .before .before .args .timing
+  timing = turn .before .before .before .before .before .args .timing
 
   abbrev bytes : List ℕ
-  bytes = now (l .before .before .before .before .before .before .before .args .bytes)
+  bytes = now (turn .before .before .before .before .before .args .bytes)
 
   abbrev kept : Timestamps
-  kept = l .loop .stamps
+  kept = l .loop2 .stamps
+
+  -- what is passed since the start
+  since : let a = turn .before .before .before .before .before .args in
+      Passed timing (wordsOf bytes) (idleAt (a .start) (a .from)) (idleAt (l .loop2 .clock) kept)
+  since = passed-on (turn .loop .inv .passed) (l .loop2 .inv .passed)
 
 -- the word that it reads
-module _ (c : tie.After-word-at Inv-loop μ-loop) where
-  abbrev from : tie.At-loop Inv-loop μ-loop
+module _ (c : tie.After-word-at Inv-loop2 μ-loop2 Inv-loop μ-loop) where
+  abbrev from : tie.At-loop2 Inv-loop2 μ-loop2 Inv-loop μ-loop
   from = c .before .before
 
   abbrev clock : ℕ
-  clock = from .loop .clock
+  clock = from .loop2 .clock
 
   low : clock + 1 < length (bytes from) / 4
-  low = omega (arith, from .before .before .in-time .ensures .0)
+  low = omega (arith, turn from .before .before .in-time .ensures .0)
 
   limit : clock + 1 < 16777216
   limit = omega (arith, low)
@@ -70,21 +86,22 @@ module _ (c : tie.After-word-at Inv-loop μ-loop) where
   word = c .word-at .ensures ∙ word-listed (bytes from) clock listed
 
 -- it opens a pair
-opens : (c : tie.Else1 Inv-loop μ-loop) → let w = c .before in let l = from w in
-    Passes (timing l) (wordsOf (bytes l)) (idleAt (clock w) (kept l)) (record { clock = clock w + 1; first = w .word-at .result; stamps = kept l })
+opens : (c : tie.Else1 Inv-loop2 μ-loop2 Inv-loop μ-loop) → let w = c .before in let l = from w in
+    let p : Place = record { clock = clock w + 1; met = w .word-at .result; stamps = kept l } in
+    Passes (timing l) (wordsOf (bytes l)) (idleAt (clock w) (kept l)) p
 opens c =
     let w = c .before in
     let l = from w in
     opening-passes (timing l) (wordsOf (bytes l)) (idleAt (clock w) (kept l)) (inside w) (word w)
-    (l .loop .inv .due (clock w) (omega arith)) refl (c .if1 .left)
+    (l .loop2 .inv .due (clock w) (omega arith)) refl (c .if1 .left)
 
 -- and the word behind it is the LAL word of a clear read or write
-closes : (c : tie.After-choose2 Inv-loop μ-loop) → let tested = c .before .before .before in
+closes : (c : tie.After-choose2 Inv-loop2 μ-loop2 Inv-loop μ-loop) → let tested = c .before .before .before in
     let w = tested .before .before .before .before .before .before in
     let l = from w in
-    Passes (timing l) (wordsOf (bytes l)) (record { clock = clock w + 1; first = w .word-at .result; stamps = kept l })
-    (accessed (tested .before .before .before .bank .result) (record { clock = clock w + 1; first = w .word-at .result; stamps = kept l })
-    (c .before .choose .result) (c .choose2 .result))
+    let p : Place = record { clock = clock w + 1; met = w .word-at .result; stamps = kept l } in
+    Passes (timing l) (wordsOf (bytes l)) p
+    (accessed (tested .before .before .before .bank .result) p (c .before .choose .result) (c .choose2 .result))
 closes c =
     let rda = c .before .before in
     let tested = rda .before in
@@ -93,123 +110,106 @@ closes c =
     let opened = second .before in
     let w = opened .before in
     let l = from w in
-    let p : Place = record { clock = clock w + 1; first = w .word-at .result; stamps = kept l } in
-    let clear = tested .before .clear .ensures (not-false _ (tested .if3 .left)) in
+    let p : Place = record { clock = clock w + 1; met = w .word-at .result; stamps = kept l } in
+    let clear = tested .before .clear .ensures (not-false _ (tested .if2 .left)) in
     access-passes (timing l) (wordsOf (bytes l)) p
     (rw (words-length (bytes l)) (low w))
     (second .word-at2 .ensures ∙ word-listed (bytes l) (clock w + 1) (low w))
-    (l .loop .inv .due (clock w + 1) (w .before .loop-test .taken))
+    (l .loop2 .inv .due (clock w + 1) (w .before .loop2-test .taken))
     (rw (opened .if1 .left))
-    (rw (l .before .before .before .before .before .figures .ensures) at (banked .bank .ensures .0))
-    (l .loop .inv .calm (clock w + 1) (omega (arith, limit w)) (clear .late))
+    (banked .bank .ensures .0 ∙ ap (λ (f : Figures). bankOf (f .four) (p .met)) (turn l .before .before .before .figures .ensures))
+    (l .loop2 .inv .calm (clock w + 1) (omega (arith, limit w)) (clear .late))
     clear
     (rw (rda .high .ensures) at (c .before .choose .ensures))
     (rw (rda .high .ensures) at (c .choose2 .ensures))
 
-figures-requires : tie.Need-figures-requires Inv-loop μ-loop
+figures-requires : tie.Need-figures-requires Inv-loop2 μ-loop2 Inv-loop μ-loop
 figures-requires c κs = search needs
 
-deadline-requires : tie.Need-deadline-requires Inv-loop μ-loop
-deadline-requires c κs = search needs
-
-in-time-requires : tie.Need-in-time-requires Inv-loop μ-loop
+in-time-requires : tie.Need-in-time-requires Inv-loop2 μ-loop2 Inv-loop μ-loop
 in-time-requires c κs = search needs
 
-settled-from-requires : tie.Need-settled-from-requires Inv-loop μ-loop
+settled-from-requires : tie.Need-settled-from-requires Inv-loop2 μ-loop2 Inv-loop μ-loop
 settled-from-requires c κs = search needs
 
-loop-holds : tie.Need-loop-holds Inv-loop μ-loop
-loop-holds c =
-    record {
-      fits = search needs;
-      passed = none;
-      due = rw (c .before .before .deadline .ensures, c .before .before .before .before .figures .ensures) at (c .before .in-time .ensures .1);
-      calm = c .settled-from .ensures;
-    }
+loop-holds : tie.Need-loop-holds Inv-loop2 μ-loop2 Inv-loop μ-loop
+loop-holds c = record { fits = search needs; passed = none; due = c .before .in-time .ensures .1; calm = c .settled-from .ensures }
 
-cast-loop : tie.Need-cast-loop Inv-loop μ-loop
-cast-loop c = search needs
+loop2-holds : tie.Need-loop2-holds Inv-loop2 μ-loop2 Inv-loop μ-loop
+loop2-holds c =
+    let inv = c .loop .inv in
+    record { fits = inv .fits; passed = none; due = inv .due; calm = inv .calm }
 
-add-loop : tie.Need-add-loop Inv-loop μ-loop
-add-loop c = omega (arith, c .loop .inv .fits)
+cast-loop2 : tie.Need-cast-loop2 Inv-loop2 μ-loop2 Inv-loop μ-loop
+cast-loop2 c = search needs
 
-cast-word-at : tie.Need-cast-word-at Inv-loop μ-loop
+add-loop2 : tie.Need-add-loop2 Inv-loop2 μ-loop2 Inv-loop μ-loop
+add-loop2 c = omega (arith, c .loop2 .inv .fits)
+
+cast-word-at : tie.Need-cast-word-at Inv-loop2 μ-loop2 Inv-loop μ-loop
 cast-word-at c = search needs
 
-word-at-requires : tie.Need-word-at-requires Inv-loop μ-loop
+word-at-requires : tie.Need-word-at-requires Inv-loop2 μ-loop2 Inv-loop μ-loop
 word-at-requires c κs = search needs
 
-past-idle-requires : tie.Need-past-idle-requires Inv-loop μ-loop
-past-idle-requires c κs = search needs
-
-loop-less : tie.Need-loop-less Inv-loop μ-loop
-loop-less c = omega (arith, c .if2 .left)
-
-loop-again : tie.Need-loop-again Inv-loop μ-loop
-loop-again c =
-    let inv = from (c .before .before .before) .loop .inv in
-    record {
-      fits = search needs;
-      passed = passed-on (inv .passed) (c .before .past-idle .ensures .1 (inv .due));
-      due = inv .due;
-      calm = inv .calm;
-    }
-
-add-closing : tie.Need-add-closing Inv-loop μ-loop
+add-closing : tie.Need-add-closing Inv-loop2 μ-loop2 Inv-loop μ-loop
 add-closing c = omega arith
 
-cast-word-at-2 : tie.Need-cast-word-at-2 Inv-loop μ-loop
+cast-word-at-2 : tie.Need-cast-word-at-2 Inv-loop2 μ-loop2 Inv-loop μ-loop
 cast-word-at-2 c = search needs
 
-word-at-requires-2 : tie.Need-word-at-requires-2 Inv-loop μ-loop
+word-at-requires-2 : tie.Need-word-at-requires-2 Inv-loop2 μ-loop2 Inv-loop μ-loop
 word-at-requires-2 c κs = search needs
 
-bank-requires : tie.Need-bank-requires Inv-loop μ-loop
+bank-requires : tie.Need-bank-requires Inv-loop2 μ-loop2 Inv-loop μ-loop
 bank-requires c κs = search needs
 
-cast-bank : tie.Need-cast-bank Inv-loop μ-loop
+cast-bank : tie.Need-cast-bank Inv-loop2 μ-loop2 Inv-loop μ-loop
 cast-bank c = search needs
 
-mul-choose : tie.Need-mul-choose Inv-loop μ-loop
+mul-choose : tie.Need-mul-choose Inv-loop2 μ-loop2 Inv-loop μ-loop
 mul-choose c = search needs
 
-element-copy-out-choose : tie.Need-element-copy-out-choose Inv-loop μ-loop
+element-copy-out-choose : tie.Need-element-copy-out-choose Inv-loop2 μ-loop2 Inv-loop μ-loop
 element-copy-out-choose c = search needs
 
-clear-requires : tie.Need-clear-requires Inv-loop μ-loop
+clear-requires : tie.Need-clear-requires Inv-loop2 μ-loop2 Inv-loop μ-loop
 clear-requires c κs = search needs
 
-returns : tie.Need-returns Inv-loop μ-loop
-returns c =
-    let opened = c .before .before .before .before .before in
-    more (from (opened .before) .loop .inv .passed) (opens opened)
+at-requires : tie.Need-at-requires Inv-loop2 μ-loop2 Inv-loop μ-loop
+at-requires c κs = search needs
 
-high-requires : tie.Need-high-requires Inv-loop μ-loop
+returns : tie.Need-returns Inv-loop2 μ-loop2 Inv-loop μ-loop
+returns c =
+    let opened = c .before .before .before .before .before .before in
+    rw (c .at .ensures) (more (since (from (opened .before))) (opens opened))
+
+high-requires : tie.Need-high-requires Inv-loop2 μ-loop2 Inv-loop μ-loop
 high-requires c κs = search needs
 
-mul-stamps : tie.Need-mul-stamps Inv-loop μ-loop
+mul-stamps : tie.Need-mul-stamps Inv-loop2 μ-loop2 Inv-loop μ-loop
 mul-stamps c = search needs
 
-element-write-stamps : tie.Need-element-write-stamps Inv-loop μ-loop
+element-write-stamps : tie.Need-element-write-stamps Inv-loop2 μ-loop2 Inv-loop μ-loop
 element-write-stamps c = search needs
 
-choose-requires : tie.Need-choose-requires Inv-loop μ-loop
+choose-requires : tie.Need-choose-requires Inv-loop2 μ-loop2 Inv-loop μ-loop
 choose-requires c κs = search needs
 
-choose-requires-2 : tie.Need-choose-requires-2 Inv-loop μ-loop
+choose-requires-2 : tie.Need-choose-requires-2 Inv-loop2 μ-loop2 Inv-loop μ-loop
 choose-requires-2 c κs = search needs
 
-add-clock : tie.Need-add-clock Inv-loop μ-loop
+add-clock : tie.Need-add-clock Inv-loop2 μ-loop2 Inv-loop μ-loop
 add-clock c = omega arith
 
-loop-less-2 : tie.Need-loop-less-2 Inv-loop μ-loop
-loop-less-2 c = omega arith
+loop2-less : tie.Need-loop2-less Inv-loop2 μ-loop2 Inv-loop μ-loop
+loop2-less c = omega arith
 
-loop-again-2 : tie.Need-loop-again-2 Inv-loop μ-loop
-loop-again-2 c =
+loop2-again : tie.Need-loop2-again Inv-loop2 μ-loop2 Inv-loop μ-loop
+loop2-again c =
     let opened = c .before .before .before .before .before .before .before .before in
     let w = opened .before in
-    let inv = from w .loop .inv in
+    let inv = from w .loop2 .inv in
     record {
       fits = omega (arith, limit w);
       passed = more (more (inv .passed) (opens opened)) (closes c);
@@ -220,30 +220,50 @@ loop-again-2 c =
           record { ready = s .ready; afterMode = s .afterMode; afterRefresh = s .afterRefresh };
     }
 
-returns-2 : tie.Need-returns-2 Inv-loop μ-loop
-returns-2 c = c .before .loop .inv .passed
+past-idle-requires : tie.Need-past-idle-requires Inv-loop2 μ-loop2 Inv-loop μ-loop
+past-idle-requires c κs = search needs
 
-returns-3 : tie.Need-returns-3 Inv-loop μ-loop
-returns-3 c = from (c .before .before .before) .loop .inv .passed
+at-requires-2 : tie.Need-at-requires-2 Inv-loop2 μ-loop2 Inv-loop μ-loop
+at-requires-2 c κs = search needs
+
+returns-2 : tie.Need-returns-2 Inv-loop2 μ-loop2 Inv-loop μ-loop
+returns-2 c = rw (c .at2 .ensures) (since (c .before .before .before .before))
+
+-- idle words lead on
+idle : (c : tie.After-past-idle Inv-loop2 μ-loop2 Inv-loop μ-loop) → let l = c .before .before in
+    Passed (timing l) (wordsOf (bytes l)) (idleAt (l .loop2 .clock) (kept l)) (idleAt (c .past-idle .result) (kept l))
+idle c = c .past-idle .ensures .1 (c .before .before .loop2 .inv .due)
+
+loop-less : tie.Need-loop-less Inv-loop2 μ-loop2 Inv-loop μ-loop
+loop-less c =
+    let past = c .before in
+    let l = past .before .before in
+    let more : l .loop2 .clock < past .past-idle .result = omega (arith, c .if3 .left, past .past-idle .ensures .0) in
+    omega (arith, rw (words-length (bytes l)) at (passed-inside (idle past) more), passed-onward (l .loop2 .inv .passed))
+
+loop-again : tie.Need-loop-again Inv-loop2 μ-loop2 Inv-loop μ-loop
+loop-again c =
+    let l = c .before .before .before in
+    let inv = l .loop2 .inv in
+    record { fits = search needs; passed = passed-on (since l) (idle (c .before)); due = inv .due; calm = inv .calm }
 
 pub skim-spec : {M : Type 1} → statement M
 skim-spec =
     tie.close
     (tie.spec
+    Inv-loop2
+    μ-loop2
     Inv-loop
     μ-loop
     figures-requires
-    deadline-requires
     in-time-requires
     settled-from-requires
     loop-holds
-    cast-loop
-    add-loop
+    loop2-holds
+    cast-loop2
+    add-loop2
     cast-word-at
     word-at-requires
-    past-idle-requires
-    loop-less
-    loop-again
     add-closing
     cast-word-at-2
     word-at-requires-2
@@ -252,6 +272,7 @@ skim-spec =
     mul-choose
     element-copy-out-choose
     clear-requires
+    at-requires
     returns
     high-requires
     mul-stamps
@@ -259,7 +280,10 @@ skim-spec =
     choose-requires
     choose-requires-2
     add-clock
-    loop-less-2
-    loop-again-2
+    loop2-less
+    loop2-again
+    past-idle-requires
+    at-requires-2
     returns-2
-    returns-3)
+    loop-less
+    loop-again)

@@ -1,4 +1,4 @@
--- By the wiring. Assumes nothing.
+-- By the wiring.
 use borrow.Author.Needs.{needs}
 use native.Mathlib.Omega.{arith}
 use Rattle.command.proofs.address.address.Statement.{statement}

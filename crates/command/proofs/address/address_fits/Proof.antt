@@ -1,4 +1,4 @@
--- By the wiring. Assumes nothing.
+-- By the wiring.
 use Rattle.command.proofs.address.address_fits.Statement.{statement}
 use Rattle.command.proofs.address.address_fits.Tie as tie
 

@@ -1,4 +1,4 @@
--- By the wiring. Assumes nothing.
+-- By the wiring.
 use native.Mathlib.Omega.{arith}
 use Rattle.command.proofs.address.bank.Statement.{statement}
 use Rattle.command.proofs.address.bank.Tie as tie

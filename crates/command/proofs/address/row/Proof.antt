@@ -1,4 +1,4 @@
--- By the wiring. Assumes nothing.
+-- By the wiring.
 use borrow.Author.Needs.{needs}
 use Rattle.command.proofs.address.row.Statement.{statement}
 use Rattle.command.proofs.address.row.Tie as tie

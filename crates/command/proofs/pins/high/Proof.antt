@@ -1,4 +1,4 @@
--- By whether there is a pin of this weight. Assumes nothing.
+-- By whether there is a pin of this weight.
 use borrow.Author.Needs.{needs}
 use borrow.Author.Tests.{eq-eqb, ne-eqb}
 use Rattle.command.proofs.pins.high.Statement.{statement}

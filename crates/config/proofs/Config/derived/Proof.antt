@@ -1,4 +1,4 @@
--- Each figure is the published one; the quotient leaves room for its plus 1. Assumes nothing.
+-- Each figure is the published one; the quotient leaves room for its plus 1.
 use native.Mathlib.Omega.{arith}
 use native.Mathlib.Nat.{div-le-self}
 use borrow.Author.Needs.{needs}
@@ -17,27 +17,32 @@ add-window c = omega (arith, div-le-self 3200000 (c .before .before .args .self 
 choose-requires : tie.Need-choose-requires
 choose-requires c κs = search needs
 
-add-larger : tie.Need-add-larger
-add-larger c = search needs
+add-greater : tie.Need-add-greater
+add-greater c = search needs
 
-add-larger-2 : tie.Need-add-larger-2
-add-larger-2 c = search needs
+add-greater-2 : tie.Need-add-greater-2
+add-greater-2 c = search needs
 
-larger-requires : tie.Need-larger-requires
-larger-requires c κs = search needs
+greater-requires : tie.Need-greater-requires
+greater-requires c κs = search needs
 
-larger-requires-2 : tie.Need-larger-requires-2
-larger-requires-2 c κs = search needs
+greater-requires-2 : tie.Need-greater-requires-2
+greater-requires-2 c κs = search needs
 
-larger-requires-3 : tie.Need-larger-requires-3
-larger-requires-3 c κs = search needs
+greater-requires-3 : tie.Need-greater-requires-3
+greater-requires-3 c κs = search needs
 
 sub-t7 : tie.Need-sub-t7
 sub-t7 c = search needs
 
 returns : tie.Need-returns
 returns c =
-    rw (c .before .before .larger3 .ensures, c .before .before .before .larger2 .ensures, c .before .before .before .before .larger .ensures, c .before .before .before .before .before .before .before .choose .ensures)
+    rw (
+      c .before .before .greater3 .ensures,
+      c .before .before .before .greater2 .ensures,
+      c .before .before .before .before .greater .ensures,
+      c .before .before .before .before .before .before .before .choose .ensures,
+    )
 
 pub derived-spec : {M : Type 1} → statement M
 derived-spec =
@@ -47,10 +52,10 @@ derived-spec =
     div-window
     add-window
     choose-requires
-    add-larger
-    add-larger-2
-    larger-requires
-    larger-requires-2
-    larger-requires-3
+    add-greater
+    add-greater-2
+    greater-requires
+    greater-requires-2
+    greater-requires-3
     sub-t7
     returns)

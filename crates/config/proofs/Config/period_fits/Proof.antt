@@ -1,4 +1,4 @@
--- The bound that is compared with is the table's. Assumes nothing.
+-- The bound that is compared with is the table's.
 use borrow.Author.Needs.{needs}
 use Rattle.config.proofs.Config.period_fits.Statement.{statement}
 use Rattle.config.proofs.Config.period_fits.Tie as tie

@@ -1,4 +1,4 @@
--- Each refusal by the first test that fails, and otherwise the published figures. Assumes nothing.
+-- Each refusal by the first test that fails, and otherwise the published figures.
 use borrow.Author.Needs.{needs}
 use borrow.Author.Tests.{not-true, not-false}
 use mathlib.Core.Path.{_≡_, sym, _∙_}
@@ -22,7 +22,8 @@ period c = sym (c .before .period-fits .ensures) ∙ not-false _ (c .if3 .left)
 counts : (c : tie.Else4) → countsFit (c .before .before .before .before .before .before .before .before .args .self) ≡ true
 counts c = sym (c .before .counts-fit .ensures) ∙ not-false _ (c .if4 .left)
 
-refresh : (c : tie.Else5) → refreshFits (c .before .before .before .before .before .before .before .before .before .before .args .self) ≡ true
+refresh : (c : tie.Else5)
+    → refreshFits (c .before .before .before .before .before .before .before .before .before .before .args .self) ≡ true
 refresh c = sym (c .before .refresh-fits .ensures) ∙ not-false _ (c .if5 .left)
 
 part-fits-requires : tie.Need-part-fits-requires
@@ -42,24 +43,39 @@ period-fits-requires c κs = cl-bounds (c .before .before .before .before .args 
 
 returns-3 : tie.Need-returns-3
 returns-3 c =
-    rw
-    (part (c .before .before .before .before), wiring (c .before .before), ← c .before .period-fits .ensures, not-true (c .before .period-fits .result) (c .if3 .taken))
+    rw (
+      part (c .before .before .before .before),
+      wiring (c .before .before),
+      ← c .before .period-fits .ensures,
+      not-true (c .before .period-fits .result) (c .if3 .taken),
+    )
 
 counts-fit-requires : tie.Need-counts-fit-requires
 counts-fit-requires c κs = search needs
 
 returns-4 : tie.Need-returns-4
 returns-4 c =
-    rw
-    (part (c .before .before .before .before .before .before), wiring (c .before .before .before .before), period (c .before .before), ← c .before .counts-fit .ensures, not-true (c .before .counts-fit .result) (c .if4 .taken))
+    rw (
+      part (c .before .before .before .before .before .before),
+      wiring (c .before .before .before .before),
+      period (c .before .before),
+      ← c .before .counts-fit .ensures,
+      not-true (c .before .counts-fit .result) (c .if4 .taken),
+    )
 
 refresh-fits-requires : tie.Need-refresh-fits-requires
 refresh-fits-requires c κs = search needs
 
 returns-5 : tie.Need-returns-5
 returns-5 c =
-    rw
-    (part (c .before .before .before .before .before .before .before .before), wiring (c .before .before .before .before .before .before), period (c .before .before .before .before), counts (c .before .before), ← c .before .refresh-fits .ensures, not-true (c .before .refresh-fits .result) (c .if5 .taken))
+    rw (
+      part (c .before .before .before .before .before .before .before .before),
+      wiring (c .before .before .before .before .before .before),
+      period (c .before .before .before .before),
+      counts (c .before .before),
+      ← c .before .refresh-fits .ensures,
+      not-true (c .before .refresh-fits .result) (c .if5 .taken),
+    )
 
 derived-requires : tie.Need-derived-requires
 derived-requires c κs =
@@ -72,8 +88,14 @@ derived-requires c κs =
 
 returns-6 : tie.Need-returns-6
 returns-6 c =
-    rw
-    (c .derived .ensures, part (c .before .before .before .before .before .before .before .before .before), wiring (c .before .before .before .before .before .before .before), period (c .before .before .before .before .before), counts (c .before .before .before), refresh (c .before))
+    rw (
+      c .derived .ensures,
+      part (c .before .before .before .before .before .before .before .before .before),
+      wiring (c .before .before .before .before .before .before .before),
+      period (c .before .before .before .before .before),
+      counts (c .before .before .before),
+      refresh (c .before),
+    )
 
 pub timing-spec : {M : Type 1} → statement M
 timing-spec =

@@ -1,4 +1,4 @@
--- No event is remembered. Assumes nothing.
+-- No event is remembered.
 use borrow.Author.Needs.{needs}
 use Rattle.controller.proofs.Controller.fresh.Statement.{statement}
 use Rattle.controller.proofs.Controller.fresh.Tie as tie

@@ -1,4 +1,4 @@
--- The configuration's refusal, or the offer on its timing. Assumes nothing.
+-- The configuration's refusal, or the offer on its timing.
 use borrow.Author.Needs.{needs}
 use Rattle.controller.proofs.Controller.offer.Statement.{statement}
 use Rattle.controller.proofs.Controller.offer.Tie as tie

@@ -1,4 +1,4 @@
--- The configuration's refusal, or the tick on its timing. Assumes nothing.
+-- The configuration's refusal, or the tick on its timing.
 use borrow.Author.Needs.{needs}
 use Rattle.controller.proofs.Controller.tick.Statement.{statement}
 use Rattle.controller.proofs.Controller.tick.Tie as tie
@@ -15,14 +15,14 @@ not-ticked-requires c κs = search needs
 enum-known-timing : tie.Need-enum-known-timing
 enum-known-timing c = search needs
 
-tick-by-requires : tie.Need-tick-by-requires
-tick-by-requires c κs = search needs
+tick-choosing-requires : tie.Need-tick-choosing-requires
+tick-choosing-requires c κs = search needs
 
 returns : tie.Need-returns
 returns c = rw (c .not-ticked .ensures, ← c .before .before .before .before .timing .ensures, c .before .before .why .given .1)
 
 returns-2 : tie.Need-returns-2
-returns-2 c = rw (c .tick-by .ensures, ← c .before .before .before .before .timing .ensures, c .before .before .timing2 .given .1)
+returns-2 c = rw (c .tick-choosing .ensures, ← c .before .before .before .before .timing .ensures, c .before .before .timing2 .given .1)
 
 pub tick-spec : {M : Type 1} → statement M
 tick-spec =
@@ -32,6 +32,6 @@ tick-spec =
     enum-known-why
     not-ticked-requires
     enum-known-timing
-    tick-by-requires
+    tick-choosing-requires
     returns
     returns-2)

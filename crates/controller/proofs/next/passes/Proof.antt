@@ -1,4 +1,4 @@
--- The breach of each word is its leaf's. Assumes nothing.
+-- The breach of each word is its leaf's.
 use Prim.Native.Nat.{_+_}
 use mathlib.Core.Path.{_≡_}
 use borrow.Author.Needs.{needs}
@@ -6,10 +6,12 @@ use Rattle.rules.specs.Breaches.{wordBreach}
 use Rattle.controller.proofs.next.passes.Statement.{statement}
 use Rattle.controller.proofs.next.passes.Tie as tie
 
-first : (c : tie.After-word-breach) → let a = c .before .args in c .word-breach .result ≡ wordBreach (a .timing) (a .stamps) (a .clock) 0xC0000 (a .pair .first)
+first : (c : tie.After-word-breach) → let a = c .before .args in
+    c .word-breach .result ≡ wordBreach (a .timing) (a .stamps) (a .clock) 0xC0000 (a .pair .first)
 first c = c .word-breach .ensures
 
-second : (c : tie.After-word-breach2) → let a = c .before .before .args in c .word-breach2 .result ≡ wordBreach (a .timing) (a .stamps) (a .clock + 1) (a .pair .first) (a .pair .second)
+second : (c : tie.After-word-breach2) → let a = c .before .before .args in
+    c .word-breach2 .result ≡ wordBreach (a .timing) (a .stamps) (a .clock + 1) (a .pair .first) (a .pair .second)
 second c = c .word-breach2 .ensures
 
 word-breach-requires : tie.Need-word-breach-requires

@@ -1,32 +1,47 @@
--- Each refusal by the first test that fails. Assumes nothing.
+-- Each refusal by the first test that fails, 19 by either of its parts.
 use Prim.Native.Nat.{ℕ}
 use mathlib.Core.Path.{_≡_, sym, _∙_}
-use mathlib.Core.Bool.{true, false}
+use mathlib.Core.Bool.{Bool, true, false, _&&_}
 use lib.Dec.{ltb}
 use native.Mathlib.Omega.{arith}
 use borrow.Author.Tests.{not-true, not-false, lt-ltb, le-ltb}
 use borrow.Author.Needs.{needs}
 use Rattle.writing.specs.Writing.{requestFits}
 use Rattle.controller.specs.Steps.{stateFits}
+use Rattle.controller.proofs.Parts.{in-parts}
 use Rattle.controller.proofs.offering.offer_by.Statement.{statement}
 use Rattle.controller.proofs.offering.offer_by.Tie as tie
 
+-- the start, and the answer of both parts of the test for 19
+abbrev start : tie.After-requests-fit → tie.Start
+start c = c .before .before
+
+abbrev both : tie.After-requests-fit → Bool
+both c = c .before .past-fits .result && c .requests-fit .result
+
+tested : (c : tie.After-requests-fit) → let a = start c .args in stateFits (a .timing) (a .controller) ≡ both c
+tested c =
+    let a = start c .args in
+    let past = c .before .past-fits in
+    let requests = c .requests-fit in
+    in-parts (a .timing) (a .controller) (past .result) (requests .result) (past .ensures) (requests .ensures)
+
 -- what each test tells
-unfit : (c : tie.Then1) → let a = c .before .before .args in stateFits (a .timing) (a .controller) ≡ false
-unfit c = sym (c .before .state-fits .ensures) ∙ not-true (c .before .state-fits .result) (c .if1 .taken)
+unfit : (c : tie.Then1) → let a = start (c .before) .args in stateFits (a .timing) (a .controller) ≡ false
+unfit c = tested (c .before) ∙ not-true (both (c .before)) (c .if1 .taken)
 
-fits : (c : tie.Else1) → let a = c .before .before .args in stateFits (a .timing) (a .controller) ≡ true
-fits c = sym (c .before .state-fits .ensures) ∙ not-false (c .before .state-fits .result) (c .if1 .left)
+fits : (c : tie.Else1) → let a = start (c .before) .args in stateFits (a .timing) (a .controller) ≡ true
+fits c = tested (c .before) ∙ not-false (both (c .before)) (c .if1 .left)
 
-out-of-range : (c : tie.Then2) → let a = c .before .before .before .before .args in requestFits (a .timing) (a .request) ≡ false
+out-of-range : (c : tie.Then2) → let a = start (c .before .before .before) .args in requestFits (a .timing) (a .request) ≡ false
 out-of-range c = sym (c .before .request-fits .ensures) ∙ not-true (c .before .request-fits .result) (c .if2 .taken)
 
-in-range : (c : tie.Else2) → let a = c .before .before .before .before .args in requestFits (a .timing) (a .request) ≡ true
+in-range : (c : tie.Else2) → let a = start (c .before .before .before) .args in requestFits (a .timing) (a .request) ≡ true
 in-range c = sym (c .before .request-fits .ensures) ∙ not-false (c .before .request-fits .result) (c .if2 .left)
 
 -- how many wait
 abbrev count : tie.Else2 → ℕ
-count c = c .before .before .before .before .args .controller .count
+count c = start (c .before .before .before) .args .controller .count
 
 room : (c : tie.Then3) → ltb (count (c .before .before)) 16 ≡ true
 room c = lt-ltb (count (c .before .before)) 16 (omega arith)
@@ -34,8 +49,11 @@ room c = lt-ltb (count (c .before .before)) 16 (omega arith)
 full : (c : tie.Else3) → ltb (count (c .before .before)) 16 ≡ false
 full c = le-ltb (count (c .before .before)) 16 (omega arith)
 
-state-fits-requires : tie.Need-state-fits-requires
-state-fits-requires c κs = search needs
+past-fits-requires : tie.Need-past-fits-requires
+past-fits-requires c κs = search needs
+
+requests-fit-requires : tie.Need-requests-fit-requires
+requests-fit-requires c κs = search needs
 
 not-offered-requires : tie.Need-not-offered-requires
 not-offered-requires c κs = search needs
@@ -72,7 +90,8 @@ pub offer-by-spec : {M : Type 1} → statement M
 offer-by-spec =
     tie.close
     (tie.spec
-    state-fits-requires
+    past-fits-requires
+    requests-fit-requires
     not-offered-requires
     returns
     request-fits-requires

@@ -1,4 +1,4 @@
--- The verdict on the configuration of these numbers. Assumes nothing.
+-- The verdict on the configuration of these numbers.
 use borrow.Author.Needs.{needs}
 use Rattle.fcram.proofs.wired.fcram_check_wired.Statement.{statement}
 use Rattle.fcram.proofs.wired.fcram_check_wired.Tie as tie

@@ -1,6 +1,6 @@
 -- `offer_through` meets its contract: a walk of its MIR, by hand. The controller's local is lent to `offer` and comes back (`LentLocal`).
--- All that the proof knows of `offer` is that it meets its contract. Assumes nothing.
--- The locals of its MIR: _0 the result, _1 the controller passed, _2 request, _3 controller, _4 answer, _5 the borrow of _3, _6 the controller left.
+-- All that the proof knows of `offer` is that it meets its contract. The locals of its MIR: _0 the result, _1 the controller passed, _2
+-- request, _3 controller, _4 answer, _5 the borrow of _3, _6 the controller left.
 use mathlib.Core.Path.{_≡_, refl}
 use Prim.Native.Nat.{ℕ}
 use mathlib.Core.List.{List, [], _∷_}
@@ -132,7 +132,8 @@ module _ {M : Type 1} (𝓤 : URA M) (H : Heap 𝓤) (A : Atoms 𝓤) (mem : Mem
           unbounded ! tt $ owned-data ! T.the-type T′.the-plain h _ was $
           lent ! tt T.the-type [] fullShare l (cell 0 3) h mach refl (λ ν γ. use2 W (raw (Callee .pre (to l ν γ))) (goes l ν γ .prf) $
           -- [what `offer` asks; a token]
-          calls-at ! fm Callee known (to l ν γ) (and-then ! (held ! (cell 2 5) refl) (and-then ! (held ! (cell 2 2) refl) (no-more !))) (λ v.
+          calls-at ! fm Callee known (to l ν γ) (and-then ! (held ! (cell 2 5) refl) (and-then ! (held ! (cell 2 2) refl) (no-more !)))
+          (λ v.
           returned ! tt v G.the-row (‵ (flft (ν ∷ []) (PosShare·left fullShare)) ⊛ ‵ ftrue)
           (λ (zs : Controller × (Unit {0} × Unit {0})). fres γ (T.the-row .coded .code (zs .0))) (λ zs. fsep ftrue ftrue)
           (λ r zs. offered (given r (zs .0)) ≡ offerOf h request) (λ r zs e is.

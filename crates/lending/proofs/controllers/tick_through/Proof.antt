@@ -1,6 +1,6 @@
--- `tick_through` meets its contract: a walk of its MIR, by hand. The controller's local is lent to `tick` and comes back (`LentLocal`).
--- All that the proof knows of `tick` is that it meets its contract. Assumes nothing.
--- The locals of its MIR: _0 the result, _1 the controller passed, _2 controller, _3 given, _4 the borrow of _2, _5 the controller left.
+-- `tick_through` meets its contract: a walk of its MIR, by hand. The controller's local is lent to `tick` and comes back (`LentLocal`). All
+-- that the proof knows of `tick` is that it meets its contract. The locals of its MIR: _0 the result, _1 the controller passed, _2
+-- controller, _3 given, _4 the borrow of _2, _5 the controller left.
 use mathlib.Core.Path.{_≡_, refl}
 use Prim.Native.Nat.{ℕ}
 use mathlib.Core.List.{[], _∷_}
@@ -63,7 +63,8 @@ out r z = LL.val S.the-type S′.the-laws (given r z)
 
 given-is : (r : answers.Given) (z : Controller) → Known G.the-type G′.the-laws r → Known T.the-type T′.the-laws z
     → Is S.the-row (given r z) (out r z ∷ [])
-given-is r z is was = let parts = LL.owed G.the-type G′.the-laws r _ is in LL.owes S.the-type S′.the-laws (given r z) (parts .0, (parts .1 .0, (was, tt)))
+given-is r z is was =
+    let parts = LL.owed G.the-type G′.the-laws r _ is in LL.owes S.the-type S′.the-laws (given r z) (parts .0, (parts .1 .0, (was, tt)))
 
 module _ {M : Type 1} (𝓤 : URA M) (H : Heap 𝓤) (A : Atoms 𝓤) (mem : Memory → SProp 𝓤) (run : Routine → Fun 𝓤) where
   -- the contract that the proof cites
@@ -77,7 +78,8 @@ module _ {M : Type 1} (𝓤 : URA M) (H : Heap 𝓤) (A : Atoms 𝓤) (mem : Mem
     abbrev Post : Val → SProp 𝓤
     Post = walkOf 𝓤 H A through.ended stayed (through.clauses 𝓤 H A mem run) .post ((tt, tt, tt, (h, tt), (mach ∷ [], tt)), tt)
 
-    exits : (r : answers.Given) (z : Controller) → ticked (given r z) ≡ tickOf h → Is S.the-row (given r z) (out r z ∷ []) → Sq W [] (prop (Post (out r z)))
+    exits : (r : answers.Given) (z : Controller) → ticked (given r z) ≡ tickOf h → Is S.the-row (given r z) (out r z ∷ [])
+        → Sq W [] (prop (Post (out r z)))
     exits r z e is =
         suffices ! _ (ends-at 𝓤 H A through.ended stayed (through.clauses 𝓤 H A mem run) W ((tt, tt, tt, (h, tt), (mach ∷ [], tt)), tt)
         (out r z) (given r z) (tt, tt) (tt, tt)) $
@@ -90,7 +92,9 @@ module _ {M : Type 1} (𝓤 : URA M) (H : Heap 𝓤) (A : Atoms 𝓤) (mem : Mem
       to = (((ν ∷ [], tt), (PosShare·left fullShare, tt), tt, (record { ptr = (l, 0); name = γ; now = h }, tt), (vptr l 0 ∷ [], tt)), tt)
 
       goes : Sq W (‵ (Ref T.the-type [] l ν γ h) ∷ ‵ (flft (ν ∷ []) (PosShare·left fullShare)) ∷ []) (prop (Callee .pre to))
-      goes = nothing ! $ move ! (2 ∷ 0 ∷ []) $ join ! $ nothing ! $ move ! (2 ∷ 0 ∷ []) $ fjoin ! $ move ! (1 ∷ 0 ∷ []) $ join ! $ frame ! $ done !
+      goes =
+          nothing ! $ move ! (2 ∷ 0 ∷ []) $ join ! $ nothing ! $ move ! (2 ∷ 0 ∷ []) $ fjoin ! $ move !
+          (1 ∷ 0 ∷ []) $ join ! $ frame ! $ done !
 
     module _ (C : Calls 𝓤 H) (Λ : Loops 𝓤 H) (fm : FmC 𝓤 H (W .laws) C) (known : Triple 𝓤 (C #callee) Callee) where
       walk : ent 𝓤 (onEntry 𝓤 H A through.signature tt tt (h, tt) (mach ∷ [], tt)) (WpFn 𝓤 H C Λ code.function (mach ∷ []) Post)

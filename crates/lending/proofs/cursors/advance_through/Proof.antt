@@ -1,8 +1,8 @@
--- `advance_through` meets its contract: a walk of its MIR, by hand. A `TraceCursor` that `new` returns is held in a local; another checker is
--- stored in it, and the local is lent to `advance` and comes back (`LentLocal`). All that the proof knows of `new` and of `advance` is that each
--- meets its contract. In a local of a body MIR erases the lifetime of the struct's type: what the struct owns does not say the lifetime's name.
--- Assumes nothing.
--- The locals of its MIR: _0 the result, _1 words, _2 reached, _3 cursor, _4 progress, _5 what `new` returns, _6 the borrow of _3, _7 the checker left.
+-- `advance_through` meets its contract: a walk of its MIR, by hand. A `TraceCursor` that `new` returns is held in a local; another checker
+-- is stored in it, and the local is lent to `advance` and comes back (`LentLocal`). All that the proof knows of `new` and of `advance` is
+-- that each meets its contract. In a local of a body MIR erases the lifetime of the struct's type: what the struct owns does not say the
+-- lifetime's name. The locals of its MIR: _0 the result, _1 words, _2 reached, _3 cursor, _4 progress, _5 what `new` returns, _6 the borrow
+-- of _3, _7 the checker left.
 use mathlib.Core.Path.{_≡_, refl}
 use Prim.Native.Nat.{ℕ}
 use mathlib.Core.List.{List, [], _∷_, _++_}
@@ -42,9 +42,9 @@ use denote.Triple.Walked.{says, Stays, stay-none, stay-none-slice, walkOf, goes-
 use denote.Exit.{yes}
 use Rattle.config.proofs.Config as F
 use Rattle.config.proofs.Config.Laws as F′
-use Rattle.protocol.specs.declared.checker.Checker.{Checker}
-use Rattle.protocol.proofs.checker.Checker as K
-use Rattle.protocol.proofs.checker.Checker.Laws as K′
+use Rattle.checker.specs.declared.checker.Checker.{Checker}
+use Rattle.checker.proofs.checker.Checker as K
+use Rattle.checker.proofs.checker.Checker.Laws as K′
 use Rattle.walks.specs.Walk.{MovePromised}
 use Rattle.cursor.specs.Cursor.{AdvancePromised, NewPromised}
 use Rattle.cursor.specs.declared.TraceCursor.{TraceCursor}
@@ -121,22 +121,27 @@ module _ {M : Type 1} (𝓤 : URA M) (H : Heap 𝓤) (A : Atoms 𝓤) (mem : Mem
     both : Is F.the-row (k .config) (configVal (k .config) ∷ [])
         → ent 𝓤 (sem 𝓤 H A (Words κ s)) (sem 𝓤 H A (Both κ s F.the-row (k .config) (configVal (k .config) ∷ [])))
     both is =
-        qed W (‵ (Words κ s) ∷ []) ∵ nothing ! $ owned-data ! F.the-type F′.the-plain (k .config) _ is $ fjoin ! $ move ! (1 ∷ 0 ∷ []) $ fjoin ! $ done !
+        qed W (‵ (Words κ s) ∷ []) ∵ nothing ! $ owned-data ! F.the-type F′.the-plain (k .config) _ is $ fjoin ! $ move !
+        (1 ∷ 0 ∷ []) $ fjoin ! $ done !
 
     goes-new : Is F.the-row (k .config) (configVal (k .config) ∷ [])
         → ent 𝓤 (onEntry 𝓤 H A through.signature (κ, tt) (q, tt) a at) (sep 𝓤 (New .pre to-new) (sem 𝓤 H A Had))
     goes-new is =
-        qed W ((‵ (flft κ q) ⊛ ‵ ftrue) ∷ ‵ Had ∷ []) ∵ move ! (1 ∷ []) $ use1 W (‵ Had ⊛ ‵ (Words κ s)) (kept W κ s K.the-row k _) $ split ! $
+        qed W ((‵ (flft κ q) ⊛ ‵ ftrue) ∷ ‵ Had ∷ []) ∵ move ! (1 ∷ []) $ use1 W (‵ Had ⊛ ‵ (Words κ s))
+        (kept W κ s K.the-row k _) $ split ! $
         move ! (1 ∷ []) $ use1 W (‵ (Both κ s F.the-row (k .config) (configVal (k .config) ∷ []))) (both is) $ move ! (2 ∷ 0 ∷ []) $
         use2 W (raw (New .pre to-new))
-        (qed W ((‵ (flft κ q) ⊛ ‵ ftrue) ∷ ‵ (Both κ s F.the-row (k .config) (configVal (k .config) ∷ [])) ∷ []) ∵ join ! $ frame ! $ done !) $ frame ! $ done !
+        (qed W
+        ((‵ (flft κ q) ⊛ ‵ ftrue) ∷ ‵
+        (Both κ s F.the-row (k .config) (configVal (k .config) ∷ [])) ∷ []) ∵ join ! $ frame ! $ done !) $ frame ! $ done !
 
     exits : (r : Progress) (w : Val) (z : Checker) → Is N.the-row (answered r z) (movedVal w z ∷ []) → MovePromised k (now s) (answered r z)
         → Sq W (‵ (flft κ q) ∷ ‵ Had ∷ []) (prop (Post (movedVal w z)))
     exits r w z is e =
         suffices ! _ (ends-at 𝓤 H A through.ended stayed (through.clauses 𝓤 H A mem run) W (((κ, tt), (q, tt), tt, a, at), tt)
         (movedVal w z) (answered r z) (tt, (tt, tt)) (tt, (tt, tt))) $ says ! e $
-        nothing ! $ move ! (1 ∷ 0 ∷ []) $ join ! $ frame ! $ owned-data ! N.the-type N′.the-plain (answered r z) _ is $ move ! (1 ∷ 0 ∷ []) $ done !
+        nothing ! $ move ! (1 ∷ 0 ∷ []) $ join ! $ frame ! $ owned-data ! N.the-type N′.the-plain (answered r z) _ is $ move !
+        (1 ∷ 0 ∷ []) $ done !
 
     -- the call of `advance`, on the local at l
     module _ (h : TraceCursor) (l ν : ℕ) (γ : GName) where
@@ -152,7 +157,8 @@ module _ {M : Type 1} (𝓤 : URA M) (H : Heap 𝓤) (A : Atoms 𝓤) (mem : Mem
         tt,
       )
 
-      goes-advance : Sq W (‵ (Ref (E κ) κ l ν γ h) ∷ ‵ (flft (ν ∷ κ) (PosShare·left q)) ∷ ‵ (flft κ (PosShare·right q)) ∷ []) (prop (Advance .pre to-advance))
+      goes-advance : Sq W (‵ (Ref (E κ) κ l ν γ h) ∷ ‵ (flft (ν ∷ κ) (PosShare·left q)) ∷ ‵ (flft κ (PosShare·right q)) ∷ [])
+          (prop (Advance .pre to-advance))
       goes-advance =
           nothing ! $ move ! (3 ∷ 0 ∷ []) $ join ! $ move ! (2 ∷ 0 ∷ []) $ join ! $ nothing ! $
           move ! (2 ∷ 0 ∷ []) $ fjoin ! $ move ! (1 ∷ 0 ∷ []) $ join ! $ frame ! $ done !
@@ -164,7 +170,8 @@ module _ {M : Type 1} (𝓤 : URA M) (H : Heap 𝓤) (A : Atoms 𝓤) (mem : Mem
       module _ (bs : Blocks body.locals) where
         -- from the statement t on: Δ stands before the locals, which hold ss
         abbrev From : Body → List (Item 𝓤) → List Content → Type 1
-        From t Δ ss = Sq W (Δ ++ (locals body.locals bs ss ++ [])) (runs C Λ (env 𝓤 H body.locals bs) t (atRet (env 𝓤 H body.locals bs) Post))
+        From t Δ ss =
+            Sq W (Δ ++ (locals body.locals bs ss ++ [])) (runs C Λ (env 𝓤 H body.locals bs) t (atRet (env 𝓤 H body.locals bs) Post))
 
         -- d is what `new` made, and the cursor that is lent lies at l
         module _ (d : TraceCursor) (over : d .words ≡ s) where
@@ -175,16 +182,20 @@ module _ {M : Type 1} (𝓤 : URA M) (H : Heap 𝓤) (A : Atoms 𝓤) (mem : Mem
           l = bs .1 .1 .1 .0
 
           -- the answer is made of what `advance` gave and left
-          answers : (r : Progress) (w : Val) (z : TraceCursor) → Is P.the-row r (w ∷ []) → Is (Cursor κ) z (cursorVal κ z ∷ []) → AdvancePromised h r z
+          answers : (r : Progress) (w : Val) (z : TraceCursor) → Is P.the-row r (w ∷ []) → Is (Cursor κ) z (cursorVal κ z ∷ [])
+              → AdvancePromised h r z
               → From body.t-6 (‵ (flft κ q) ∷ ‵ Had ∷ [])
-              (room ∷ holds (wordsVal s) ∷ holds (checkerVal k) ∷ holds (cursorVal κ z) ∷ holds w ∷ holds (cursorVal κ d) ∷ holds (vptr l 0) ∷ [])
+              (room ∷ holds (wordsVal s) ∷ holds (checkerVal k) ∷ holds (cursorVal κ z) ∷ holds w ∷ holds (cursorVal κ d) ∷ holds
+              (vptr l 0) ∷ [])
           answers r w z is isz e =
               let left-is = checker-is κ z isz in
               let moved-is = answer-is r w (z .checker) is left-is in
-              sets ! (cell 2 7) refl (of-opd ! (held-field ! (cell 2 3) refl (sub ! 1 refl (whole !)))) (typed W K.the-type K′.the-laws (z .checker) left-is) $
+              sets ! (cell 2 7) refl (of-opd ! (held-field ! (cell 2 3) refl (sub ! 1 refl (whole !))))
+              (typed W K.the-type K′.the-laws (z .checker) left-is) $
               sets ! (cell 2 0) refl (agg ! (and-then ! (held ! (cell 2 4) refl) (and-then ! (held ! (cell 2 7) refl) (no-more !))))
               (moved-typed W (answered r (z .checker)) _ moved-is) $
-              returns ! (look ! (cell 2 0) refl) $ aside ! $ aside ! $ freed ! $ freed ! $ freed ! $ freed ! $ freed ! $ freed ! $ freed ! $ freed ! $ free0 ! $
+              returns ! (look ! (cell 2 0) refl) $ aside ! $ aside ! $
+              freed ! $ freed ! $ freed ! $ freed ! $ freed ! $ freed ! $ freed ! $ freed ! $ free0 ! $
               exits r w (z .checker) moved-is (rw over at (e .1))
 
           -- the cursor is lent to `advance`, and comes back
@@ -196,13 +207,15 @@ module _ {M : Type 1} (𝓤 : URA M) (H : Heap 𝓤) (A : Atoms 𝓤) (mem : Mem
               use3 W (raw (Advance .pre (to-advance h l ν γ))) (goes-advance h l ν γ .prf) $
               calls-at ! fm Advance known-advance (to-advance h l ν γ) (and-then ! (held ! (cell 2 6) refl) (no-more !)) (λ w.
               returned ! tt w P.the-row (‵ (flft (ν ∷ κ) (PosShare·left q)) ⊛ (‵ (flft κ (PosShare·right q)) ⊛ ‵ ftrue))
-              (λ (zs : TraceCursor × Unit {0}). fres γ (Cursor κ .coded .code (zs .0))) (λ zs. ftrue) (λ r zs. AdvancePromised h r (zs .0)) (λ r zs e is.
+              (λ (zs : TraceCursor × Unit {0}). fres γ (Cursor κ .coded .code (zs .0))) (λ zs. ftrue)
+              (λ r zs. AdvancePromised h r (zs .0)) (λ r zs e is.
               split ! $ move ! (1 ∷ []) $ split ! $ move ! (1 ∷ []) $ drop ! $ move ! (1 ∷ 0 ∷ 2 ∷ []) $
               regained ! tt (E κ) κ q l (cell 1 3) (T′.the-laws (record { mir = erased; lft = κ })) ν γ (zs .0) refl (λ isz. drop ! $
               lands-in ! (cell 2 4) refl (progress-typed W r w is) $ answers r w (zs .0) is isz e))))
 
           -- the checker that the walk has reached is stored in the cursor
-          stores : Is (Cursor κ) d (cursorVal κ d ∷ []) → From body.t-2 (‵ (Cursor κ .own d (cursorVal κ d ∷ [])) ∷ ‵ (flft κ q) ∷ ‵ Had ∷ [])
+          stores : Is (Cursor κ) d (cursorVal κ d ∷ [])
+              → From body.t-2 (‵ (Cursor κ .own d (cursorVal κ d ∷ [])) ∷ ‵ (flft κ q) ∷ ‵ Had ∷ [])
               (room ∷ holds (wordsVal s) ∷ holds (checkerVal k) ∷ room ∷ room ∷ holds (cursorVal κ d) ∷ [])
           stores is =
               sets ! (cell 3 3) refl (of-opd ! (held ! (cell 3 5) refl)) (cursor-typed W erased κ d _ is) $
@@ -225,18 +238,24 @@ module _ {M : Type 1} (𝓤 : URA M) (H : Heap 𝓤) (A : Atoms 𝓤) (mem : Mem
           qed W (raw (onEntry 𝓤 H A through.signature (κ, tt) (q, tt) a at) ∷ []) ∵
           begins ! C Λ code.function (wordsVal s ∷ checkerVal k ∷ []) _
           ((tt, words-typed W κ s words-are), (typed W K.the-type K′.the-laws k checker-was, tt)) (λ bs.
-          move ! (cell 0 8 ∷ []) $ use1 W (raw (New .pre to-new) ⊛ ‵ Had) (goes-new (LL.owed K.the-type K′.the-laws k _ checker-was .0)) $ split ! $
+          move ! (cell 0 8 ∷ []) $ use1 W (raw (New .pre to-new) ⊛ ‵ Had)
+          (goes-new (LL.owed K.the-type K′.the-laws k _ checker-was .0)) $ split ! $
           makes bs)
 
 pub advance-through-spec : {M : Type 1} → stated.statement M
 unfolding code.routine
 advance-through-spec 𝓤 H 𝓜 𝓖 𝓡 =
     let W = givenOf 𝓤 H 𝓜 𝓖 in
-    let known-new = cited 𝓤 H (New 𝓤 H (𝓖 .A) (𝓜 .mem) (𝓡 .run)) 𝓜 𝓡 code.env #new new-def.routine code.calls-cursor·new (new-thm.met 𝓤 H 𝓜 𝓖 𝓡) in
+    let known-new =
+    cited 𝓤 H (New 𝓤 H (𝓖 .A) (𝓜 .mem) (𝓡 .run)) 𝓜 𝓡 code.env #new new-def.routine code.calls-cursor·new (new-thm.met 𝓤 H 𝓜 𝓖 𝓡) in
     let known-advance = cited 𝓤 H (Advance 𝓤 H (𝓖 .A) (𝓜 .mem) (𝓡 .run)) 𝓜 𝓡 code.env #advance advance-def.routine
     code.calls-cursor·advance (advance-thm.met 𝓤 H 𝓜 𝓖 𝓡) in
-    reached 𝓤 H 𝓜 𝓖 𝓡 through.ended code.env stayed
-    (goes-none-slice 𝓤 H (𝓖 .A) W 1 (0 ∷ []) tt (plain (λ _. u32)) yes, (goes-none 𝓤 H (𝓖 .A) W 1 (λ _. K.the-row) yes (λ κs x f. refl), tt))
+    reached 𝓤 H 𝓜 𝓖 𝓡 through.ended code.env stayed (
+      goes-none-slice 𝓤 H (𝓖 .A) W 1 (0 ∷ []) tt (plain (λ _. u32)) yes,
+      (goes-none 𝓤 H (𝓖 .A) W 1 (λ _. K.the-row) yes (λ κs x f. refl), tt),
+    )
     (through.clauses 𝓤 H (𝓖 .A) (𝓜 .mem) (𝓡 .run)) #through code.function (code.unfolded 𝓤 H 𝓜 𝓡)
-    (λ κs. (slice-vals, (LL.vals K.the-type K′.the-laws, tt))) (λ κs. (shr-slice-tells (named 0) (κs .0) u32, (LL.tells K.the-type K′.the-laws, tt)))
-    (λ fm κs qs bounds a g are. walk 𝓤 H (𝓖 .A) (𝓜 .mem) (𝓡 .run) W (κs .0) (qs .0) (a .0) (a .1 .0) _ _ fm known-new known-advance (are .1 .0) (are .0))
+    (λ κs. (slice-vals, (LL.vals K.the-type K′.the-laws, tt)))
+    (λ κs. (shr-slice-tells (named 0) (κs .0) u32, (LL.tells K.the-type K′.the-laws, tt)))
+    (λ fm κs qs bounds a g are. walk 𝓤 H (𝓖 .A) (𝓜 .mem) (𝓡 .run) W (κs .0) (qs .0) (a .0) (a .1 .0) _ _ fm known-new known-advance
+    (are .1 .0) (are .0))

@@ -1,4 +1,4 @@
--- By the test. Assumes nothing.
+-- By the test.
 use borrow.Author.Needs.{needs}
 use Rattle.line.proofs.Line.digit.Statement.{statement}
 use Rattle.line.proofs.Line.digit.Tie as tie

@@ -1,17 +1,17 @@
--- The invariant: the line, with the digits of the powers that are left, is the first one with the number. Assumes nothing.
+-- The invariant: the line, with the digits of the powers that are left, is the first one with the number.
 use Prim.Native.Nat.{_-_, _≤_}
 use mathlib.Core.Path.{_≡_, refl, _∙_}
 use native.Mathlib.Omega.{arith}
 use lib.ListN.{drop}
 use Rattle.line.specs.Lines.{appended}
-use Rattle.line.specs.Text.{digits, powers, decimal}
+use Rattle.line.specs.Text.{digitsBy, powers, decimal}
 use Rattle.line.proofs.Digits.{one-more, positive}
 use borrow.Author.Needs.{needs}
 use Rattle.line.proofs.Line.number.Statement.{statement}
 use Rattle.line.proofs.Line.number.Tie as tie
 
 abbrev Inv-loop : tie.InvT-loop
-Inv-loop n line₀ i₀ line i = (i ≤ 9) × (appended line (digits (drop i powers) n) ≡ appended line₀ (decimal n))
+Inv-loop n line₀ i₀ line i = (i ≤ 9) × (appended line (digitsBy (drop i powers) n) ≡ appended line₀ (decimal n))
 
 abbrev μ-loop : tie.MeasureT-loop
 μ-loop n line₀ i₀ line i = 9 - i

@@ -1,4 +1,4 @@
--- The invariant: the line, with the bytes that are left, is the first one with the piece. Assumes nothing.
+-- The invariant: the line, with the bytes that are left, is the first one with the piece.
 use Prim.Native.Nat.{_-_}
 use mathlib.Core.Path.{_≡_, refl}
 use native.Mathlib.Numerals.{add-one}

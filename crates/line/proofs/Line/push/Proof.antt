@@ -1,4 +1,4 @@
--- By whether there is room. Assumes nothing.
+-- By whether there is room.
 use native.Mathlib.Omega.{arith}
 use borrow.Author.Needs.{needs}
 use borrow.Author.Tests.{lt-ltb, le-ltb}

@@ -1,4 +1,4 @@
--- Piece by piece. Assumes nothing.
+-- Piece by piece.
 use mathlib.Core.List.{[], _∷_}
 use native.Mathlib.Omega.{arith}
 use borrow.Author.Needs.{needs}

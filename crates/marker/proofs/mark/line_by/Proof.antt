@@ -1,4 +1,4 @@
--- By the verdict's case. Assumes nothing.
+-- By the verdict's case.
 use borrow.Author.Needs.{needs}
 use Rattle.marker.proofs.mark.line_by.Statement.{statement}
 use Rattle.marker.proofs.mark.line_by.Tie as tie

@@ -1,4 +1,4 @@
--- 25 first, and then the verdict's line. Assumes nothing.
+-- 25 first, and then the verdict's line.
 use Prim.Native.Nat.{_≤_, _<_, _/_}
 use mathlib.Core.Path.{_∙_, ap}
 use native.Mathlib.Omega.{arith}

@@ -1,4 +1,4 @@
--- The index stays below sixteen. Assumes nothing.
+-- The index stays below sixteen.
 use Prim.Native.Nat.{_-_}
 use borrow.Author.Needs.{needs}
 use Rattle.replay.proofs.answers.waiting.Statement.{statement}

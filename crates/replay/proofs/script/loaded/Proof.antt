@@ -1,4 +1,4 @@
--- The index stays within the buffer, which keeps its length. Assumes nothing.
+-- The index stays within the buffer, which keeps its length.
 use Prim.Native.Nat.{_-_, _≤_}
 use mathlib.Core.Path.{_≡_, refl}
 use borrow.Author.Needs.{needs}

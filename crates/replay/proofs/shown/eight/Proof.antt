@@ -1,4 +1,4 @@
--- The index stays below eight. Assumes nothing.
+-- The index stays below eight.
 use Prim.Native.Nat.{_-_}
 use borrow.Author.Needs.{needs}
 use Rattle.replay.proofs.shown.eight.Statement.{statement}

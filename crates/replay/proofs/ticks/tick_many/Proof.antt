@@ -1,4 +1,4 @@
--- What is left falls at each tick. Assumes nothing.
+-- What is left falls at each tick.
 use borrow.Author.Needs.{needs}
 use Rattle.replay.proofs.ticks.tick_many.Statement.{statement}
 use Rattle.replay.proofs.ticks.tick_many.Tie as tie

@@ -1,4 +1,4 @@
--- What is left falls at each advance. Assumes nothing.
+-- What is left falls at each advance.
 use borrow.Author.Needs.{needs}
 use Rattle.replay.proofs.traces.advance_many.Statement.{statement}
 use Rattle.replay.proofs.traces.advance_many.Tie as tie

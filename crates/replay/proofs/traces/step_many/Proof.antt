@@ -1,4 +1,4 @@
--- What is left falls at each step. Assumes nothing.
+-- What is left falls at each step.
 use borrow.Author.Needs.{needs}
 use Rattle.replay.proofs.traces.step_many.Statement.{statement}
 use Rattle.replay.proofs.traces.step_many.Tie as tie

@@ -1,4 +1,4 @@
--- The words are within the buffer. Assumes nothing.
+-- The words are within the buffer.
 use mathlib.Core.Path.{sym}
 use native.Mathlib.Omega.{arith}
 use lib.Seq.{length-take-le}

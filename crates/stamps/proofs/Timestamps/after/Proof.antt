@@ -1,4 +1,4 @@
--- By whether a pair is open. Assumes nothing.
+-- By whether a pair is open.
 use mathlib.Core.Path.{_≡_, sym, _∙_, ap}
 use mathlib.Core.Bool.{true, false, not}
 use borrow.Author.Needs.{needs}

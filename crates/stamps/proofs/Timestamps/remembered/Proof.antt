@@ -1,4 +1,4 @@
--- LAL closes an access; otherwise RDA opened a mode and WRA a refresh. Assumes nothing.
+-- LAL closes an access; otherwise RDA opened a mode and WRA a refresh.
 use mathlib.Core.Path.{_≡_, sym, _∙_}
 use mathlib.Core.Bool.{true, false}
 use Rattle.command.specs.Pairs.{rda, lal}
@@ -35,7 +35,8 @@ with-access-requires : tie.Need-with-access-requires
 with-access-requires c κs = search needs
 
 returns : tie.Need-returns
-returns c = rw (c .with-access .ensures, c .before .bank .ensures .0, is-lal (c .before .before), c .before .before .before .before .high .ensures)
+returns c =
+    rw (c .with-access .ensures, c .before .bank .ensures .0, is-lal (c .before .before), c .before .before .before .before .high .ensures)
 
 high-requires-3 : tie.Need-high-requires-3
 high-requires-3 c κs = search needs

@@ -1,4 +1,4 @@
--- The last access of each kind by the test. Assumes nothing.
+-- The last access of each kind by the test.
 use borrow.Author.Needs.{needs}
 use Rattle.stamps.proofs.Timestamps.with_access.Statement.{statement}
 use Rattle.stamps.proofs.Timestamps.with_access.Tie as tie

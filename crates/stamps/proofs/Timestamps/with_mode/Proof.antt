@@ -1,4 +1,4 @@
--- The first extended and the last regular by the test. Assumes nothing.
+-- The first extended and the last regular by the test.
 use borrow.Author.Needs.{needs}
 use Rattle.stamps.proofs.Timestamps.with_mode.Statement.{statement}
 use Rattle.stamps.proofs.Timestamps.with_mode.Tie as tie

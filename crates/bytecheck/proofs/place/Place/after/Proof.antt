@@ -1,4 +1,4 @@
--- The parts are their callees'. Assumes nothing.
+-- The parts are their callees'.
 use borrow.Author.Needs.{needs}
 use Rattle.bytecheck.proofs.place.Place.after.Statement.{statement}
 use Rattle.bytecheck.proofs.place.Place.after.Tie as tie
@@ -6,14 +6,14 @@ use Rattle.bytecheck.proofs.place.Place.after.Tie as tie
 add-t7 : tie.Need-add-t7
 add-t7 c = search needs
 
-next-first-requires : tie.Need-next-first-requires
-next-first-requires c κs = search needs
+next-met-requires : tie.Need-next-met-requires
+next-met-requires c κs = search needs
 
 after-requires : tie.Need-after-requires
 after-requires c κs = search needs
 
 returns : tie.Need-returns
-returns c = rw (c .before .next-first .ensures, c .after .ensures)
+returns c = rw (c .before .next-met .ensures, c .after .ensures)
 
 pub after-spec : {M : Type 1} → statement M
-after-spec = tie.close (tie.spec add-t7 next-first-requires after-requires returns)
+after-spec = tie.close (tie.spec add-t7 next-met-requires after-requires returns)

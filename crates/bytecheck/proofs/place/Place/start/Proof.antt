@@ -1,4 +1,4 @@
--- The parts are their callee's. Assumes nothing.
+-- The parts are their callee's.
 use borrow.Author.Needs.{needs}
 use Rattle.bytecheck.proofs.place.Place.start.Statement.{statement}
 use Rattle.bytecheck.proofs.place.Place.start.Tie as tie

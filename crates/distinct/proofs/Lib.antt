@@ -1,0 +1,2 @@
+-- The theorem of specs/Distinct.
+pub mod Distinct

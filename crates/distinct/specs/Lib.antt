@@ -1,0 +1,2 @@
+-- The exam site's number, read back.
+pub mod Distinct

@@ -1,0 +1,2 @@
+-- The theorem of specs/Promises.
+pub mod Promises

@@ -1,0 +1,2 @@
+-- The file to read first.
+pub mod Promises

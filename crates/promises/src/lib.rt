@@ -1,0 +1,1 @@
+// Every theorem of the project in one record; there is no code.
