@@ -14,8 +14,8 @@ pub enum Opened {
     Extended,
     Regular,
     Refresh,
-    /// That of the oldest request.
-    Oldest,
+    /// That of the request at this place, of which 0 is the oldest's. Calls open no other.
+    Waiting(u32),
 }
 
 /// A controller on a sheet, accepted or not. `past` is of the words given, so its clock is the
@@ -46,7 +46,7 @@ impl<P: Past> Controller<P> {
             grounds.push(OPEN_AT_0);
         }
         grounds.extend(self.queue.grounds(&self.sheet));
-        if self.opened == Some(Opened::Oldest) && self.queue.count == 0 {
+        if matches!(self.opened, Some(Opened::Waiting(place)) if place >= self.queue.count) {
             grounds.push(NO_REQUEST);
         }
         grounds
@@ -90,8 +90,8 @@ impl<P: Past> Controller<P> {
     fn next_word(&mut self) -> u32 {
         if let Some(opened) = self.opened.take() {
             let words = self.words_of(opened).expect("a pair within its ranges");
-            if opened == Opened::Oldest {
-                self.queue.leave();
+            if let Opened::Waiting(place) = opened {
+                self.queue.leave(place as usize);
             }
             return words.1;
         }
@@ -117,7 +117,7 @@ impl<P: Past> Controller<P> {
         if !self.past.second_ref_stands() || self.refresh_is_due() {
             return Some(Opened::Refresh);
         }
-        (self.queue.count > 0).then_some(Opened::Oldest)
+        (self.queue.count > 0).then_some(Opened::Waiting(0))
     }
 
     /// Whether the last REF word is so long before that a refresh comes ahead of requests. A state
@@ -134,7 +134,7 @@ impl<P: Past> Controller<P> {
             Opened::Extended => Operation::Extended(0),
             Opened::Regular => Operation::Regular(false),
             Opened::Refresh => Operation::Refresh,
-            Opened::Oldest => Operation::Access(*self.queue.waiting().first()?),
+            Opened::Waiting(place) => Operation::Access(*self.queue.waiting().get(place as usize)?),
         };
         pair::write(&self.sheet, &operation).ok()
     }

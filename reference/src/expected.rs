@@ -117,7 +117,7 @@ impl Player {
 
     /// Puts the controller into a state, which writes nothing.
     fn put_controller(&mut self, numbers: &ControllerNumbers) -> String {
-        self.controller = state::controller(numbers).expect("a kind of open pair");
+        self.controller = state::controller(numbers);
         String::new()
     }
 

@@ -19,7 +19,7 @@ pub const WAKE_UP_AT_0: Ground = "wake-up word due at clock 0";
 pub const WAKE_UP_AT_1: Ground = "wake-up word due at clock 1";
 /// More requests wait than there are places.
 pub const TOO_MANY: Ground = "more than sixteen wait";
-/// The open pair is the oldest request's, and none waits.
+/// The open pair is that of the request at a place where none waits.
 pub const NO_REQUEST: Ground = "open pair of no request";
 
 /// The grounds that a checker and a controller have in common: the clock and the events.

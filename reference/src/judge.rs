@@ -3,6 +3,7 @@
 use crate::history::{Broken, History};
 use crate::past::Past;
 use crate::sheet::Sheet;
+use std::ops::RangeInclusive;
 
 /// The answer of a whole judgement.
 #[derive(Clone, Copy, Debug, PartialEq, Eq)]
@@ -10,6 +11,14 @@ pub enum Verdict {
     Accepted,
     Breach { clock: u32, number: u32 },
 }
+
+/// The verdict of a breach.
+pub fn breach(clock: u32, number: u32) -> Verdict {
+    Verdict::Breach { clock, number }
+}
+
+/// The numbers of the rules, each that of its breach.
+pub const RULES: RangeInclusive<u32> = 1..=13;
 
 /// The longest trace, and the clock at which a state takes no further word.
 pub const LONGEST: u32 = 16_777_216;
@@ -19,8 +28,7 @@ pub fn judge<P: Past>(sheet: &Sheet, words: &[u32]) -> Verdict {
     let mut past = P::fresh();
     for &word in words {
         if let Some(number) = past.lowest(sheet, word) {
-            let clock = past.clock();
-            return Verdict::Breach { clock, number };
+            return breach(past.clock(), number);
         }
         past.push(sheet, word);
     }

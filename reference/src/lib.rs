@@ -4,6 +4,7 @@
 
 pub mod both;
 pub mod checker;
+pub mod command_line;
 pub mod controller;
 pub mod counts;
 pub mod coverage;
@@ -31,3 +32,4 @@ pub mod time;
 pub mod walk;
 pub mod wiring;
 pub mod word;
+pub mod written;

@@ -37,6 +37,15 @@ pub enum Kind {
 }
 
 impl Kind {
+    /// All kinds.
+    pub const ALL: [Kind; 5] = [
+        Kind::Read,
+        Kind::Write,
+        Kind::Regular,
+        Kind::Extended,
+        Kind::Refresh,
+    ];
+
     /// Read or write.
     pub fn is_access(self) -> bool {
         matches!(self, Kind::Read | Kind::Write)

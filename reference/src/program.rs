@@ -5,7 +5,7 @@ use std::io::{Read, Write};
 use std::os::fd::OwnedFd;
 use std::os::unix::net::UnixStream;
 use std::path::Path;
-use std::process::{Command, Stdio};
+use std::process::{ChildStdin, ChildStdout, Command, Stdio};
 use std::sync::mpsc;
 use std::thread;
 use std::time::Duration;
@@ -22,8 +22,8 @@ pub enum Feed<'a> {
     Pieces(usize),
     /// From a file, which is written at this path first and removed once it is open.
     File(&'a Path),
-    /// By a socket that does not wait: so many bytes at the start and the rest, by the word, after a pause, so that a read between them fails. What
-    /// the program says of that on standard error is dropped.
+    /// By a socket that does not wait: so many bytes at the start and the rest, by the word, after a pause,
+    /// so that a read between them fails. What the program says of that on standard error is dropped.
     Unready(usize, Duration),
 }
 
@@ -47,54 +47,66 @@ fn unready(input: &[u8], first: usize, pause: Duration) -> std::io::Result<Stdio
     Ok(Stdio::from(OwnedFd::from(theirs)))
 }
 
-/// Runs the program at a path on an input. Fails if it cannot run, does not end, or a signal ends it.
-pub fn run(path: &Path, input: &[u8], feed: Feed) -> Result<Output, String> {
-    let stdin = match feed {
+/// The standard input that a program starts with.
+fn stdin(input: &[u8], feed: Feed) -> Result<Stdio, String> {
+    match feed {
         Feed::File(file) => {
             std::fs::write(file, input).map_err(|e| format!("{}: {e}", file.display()))?;
             let opened = File::open(file).map_err(|e| e.to_string())?;
             let _ = std::fs::remove_file(file);
-            Stdio::from(opened)
+            Ok(Stdio::from(opened))
         }
-        Feed::Unready(first, pause) => unready(input, first, pause).map_err(|e| e.to_string())?,
-        _ => Stdio::piped(),
-    };
-    let stderr = match feed {
-        Feed::Unready(..) => Stdio::null(),
-        _ => Stdio::inherit(),
-    };
-    let mut child = Command::new(path)
-        .stdin(stdin)
-        .stdout(Stdio::piped())
-        .stderr(stderr)
-        .spawn()
-        .map_err(|e| format!("{}: {e}", path.display()))?;
-    if let Some(mut pipe) = child.stdin.take() {
-        let input = input.to_vec();
-        let size = match feed {
-            Feed::Pieces(size) => size,
-            _ => input.len().max(1),
-        };
-        // A program may stop reading at what it refuses, so a failed write is no fault.
-        thread::spawn(move || {
-            for piece in input.chunks(size) {
-                if pipe.write_all(piece).is_err() {
-                    return;
-                }
-                if size < input.len() {
-                    thread::sleep(Duration::from_micros(200));
-                }
-            }
-        });
+        Feed::Unready(first, pause) => unready(input, first, pause).map_err(|e| e.to_string()),
+        _ => Ok(Stdio::piped()),
     }
-    let mut output = child.stdout.take().unwrap();
+}
+
+/// Writes an input into a pipe, so many bytes at a time. A program may stop reading at what it refuses, so
+/// a failed write is no fault.
+fn write_all(mut pipe: ChildStdin, input: Vec<u8>, size: usize) {
+    thread::spawn(move || {
+        for piece in input.chunks(size) {
+            if pipe.write_all(piece).is_err() {
+                return;
+            }
+            if size < input.len() {
+                thread::sleep(Duration::from_micros(200));
+            }
+        }
+    });
+}
+
+/// What a program writes up to its end; none if that takes too long.
+fn read_all(mut output: ChildStdout) -> Option<std::io::Result<Vec<u8>>> {
     let (done, finished) = mpsc::channel();
     thread::spawn(move || {
         let mut bytes = Vec::new();
         let read = output.read_to_end(&mut bytes);
         done.send(read.map(|_| bytes))
     });
-    let Ok(bytes) = finished.recv_timeout(PATIENCE) else {
+    finished.recv_timeout(PATIENCE).ok()
+}
+
+/// Runs the program at a path on an input. Fails if it cannot run, does not end, or a signal ends it.
+pub fn run(path: &Path, input: &[u8], feed: Feed) -> Result<Output, String> {
+    let stderr = match feed {
+        Feed::Unready(..) => Stdio::null(),
+        _ => Stdio::inherit(),
+    };
+    let mut child = Command::new(path)
+        .stdin(stdin(input, feed)?)
+        .stdout(Stdio::piped())
+        .stderr(stderr)
+        .spawn()
+        .map_err(|e| format!("{}: {e}", path.display()))?;
+    if let Some(pipe) = child.stdin.take() {
+        let size = match feed {
+            Feed::Pieces(size) => size,
+            _ => input.len().max(1),
+        };
+        write_all(pipe, input.to_vec(), size);
+    }
+    let Some(bytes) = read_all(child.stdout.take().unwrap()) else {
         let _ = child.kill();
         return Err(format!("no end after {} s", PATIENCE.as_secs()));
     };

@@ -34,11 +34,12 @@ impl Queue {
         self.count += 1;
     }
 
-    /// The oldest request leaves: the others move up, and the last of their places is vacant.
-    pub fn leave(&mut self) {
-        let used = &mut self.places[..self.count as usize];
-        used.rotate_left(1);
-        used[used.len() - 1] = Request::VACANT;
+    /// The request at a place leaves, where one waits: the younger ones move up, and the last of the
+    /// places that were in use is vacant.
+    pub fn leave(&mut self, place: usize) {
+        let moving = &mut self.places[place..self.count as usize];
+        moving.rotate_left(1);
+        moving[moving.len() - 1] = Request::VACANT;
         self.count -= 1;
     }
 

@@ -2,7 +2,7 @@
 //! in `Call`, in `code`, `numbers` and `decode` here, and one in the player that answers it.
 
 use crate::sheet::{Sheet, NUMBERS, WITHOUT_WIRING};
-use crate::state::{self, CheckerNumbers, ControllerNumbers};
+use crate::state::{CheckerNumbers, ControllerNumbers};
 
 /// One call. Numbers are raw, so that a case can hand over any.
 #[derive(Clone, Debug, PartialEq, Eq)]
@@ -39,7 +39,7 @@ pub enum Call {
     CheckWithin([u32; NUMBERS], Vec<u32>),
     /// Put the checker into a state.
     PutChecker(Box<CheckerNumbers>),
-    /// Put the controller into a state, of which the number of the open pair is at most 4.
+    /// Put the controller into a state.
     PutController(Box<ControllerNumbers>),
     /// The checker's state.
     ShowChecker,
@@ -161,9 +161,7 @@ impl Call {
             14 => Call::Time(one(rest)?),
             15 => Call::CheckWithin(some(rest)?, counted(rest)?),
             101 => Call::PutChecker(Box::new(some(rest)?)),
-            102 => Call::PutController(Box::new(
-                some(rest).filter(|numbers| state::controller(numbers).is_some())?,
-            )),
+            102 => Call::PutController(Box::new(some(rest)?)),
             103 => Call::ShowChecker,
             104 => Call::ShowController,
             105 => Call::TickOnce,
@@ -214,6 +212,13 @@ fn counted(rest: &mut &[u32]) -> Option<Vec<u32>> {
     take(rest, count as usize).map(|w| w.to_vec())
 }
 
+/// The script of some calls.
+pub fn script(calls: &[Call]) -> Vec<u32> {
+    let mut script = Vec::new();
+    calls.iter().for_each(|call| call.encode(&mut script));
+    script
+}
+
 /// A script's words as the bytes that the program reads.
 pub fn bytes(script: &[u32]) -> Vec<u8> {
     script.iter().flat_map(|w| w.to_le_bytes()).collect()
@@ -237,10 +242,7 @@ impl<'a> Packer<'a> {
 
     /// Adds a group of calls.
     pub fn group(&mut self, calls: &[Call]) {
-        let mut words = Vec::new();
-        for call in calls {
-            call.encode(&mut words);
-        }
+        let words = script(calls);
         assert!(words.len() <= SCRIPT_WORDS, "a group longer than a script");
         if self.script.len() + words.len() > SCRIPT_WORDS {
             self.finish();

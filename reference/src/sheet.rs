@@ -40,7 +40,7 @@ pub const SHEET_E: Sheet = Sheet {
     wiring: 8,
 };
 
-/// The same on a board of the older part.
+/// Sheet E on a board of the older part, with four banks.
 pub const SHEET_E_OF_FOUR: Sheet = Sheet {
     wiring: 4,
     ..SHEET_E

@@ -34,6 +34,14 @@ fn part<const N: usize>(numbers: &[u32], from: usize) -> [u32; N] {
     numbers[from..from + N].try_into().unwrap()
 }
 
+/// A checker that remembers nothing.
+pub fn bare_checker(sheet: &Sheet, clock: u32, first: u32) -> CheckerNumbers {
+    let mut numbers = [0; CHECKER];
+    numbers[..CLOCK].copy_from_slice(&sheet.numbers());
+    (numbers[CLOCK], numbers[OPEN]) = (clock, first);
+    numbers
+}
+
 /// The checker of these numbers.
 pub fn checker(numbers: &CheckerNumbers) -> Checker<Both> {
     let [clock, first] = part(numbers, CLOCK);
@@ -57,15 +65,17 @@ pub fn checker_numbers(checker: &Checker<Both>) -> CheckerNumbers {
     numbers.concat().try_into().unwrap()
 }
 
-/// What the number of an open pair stands for; none if it stands for nothing.
-fn opened(number: u32) -> Option<Option<Opened>> {
+/// The number of the open pair of the request at place 0; those of the further places follow.
+pub const FIRST_PLACE: u32 = 4;
+
+/// The open pair that a number stands for.
+fn opened(number: u32) -> Option<Opened> {
     match number {
-        0 => Some(None),
-        1 => Some(Some(Opened::Extended)),
-        2 => Some(Some(Opened::Regular)),
-        3 => Some(Some(Opened::Refresh)),
-        4 => Some(Some(Opened::Oldest)),
-        _ => None,
+        0 => None,
+        1 => Some(Opened::Extended),
+        2 => Some(Opened::Regular),
+        3 => Some(Opened::Refresh),
+        _ => Some(Opened::Waiting(number - FIRST_PLACE)),
     }
 }
 
@@ -76,18 +86,18 @@ fn opened_number(opened: Option<Opened>) -> u32 {
         Some(Opened::Extended) => 1,
         Some(Opened::Regular) => 2,
         Some(Opened::Refresh) => 3,
-        Some(Opened::Oldest) => 4,
+        Some(Opened::Waiting(place)) => FIRST_PLACE + place,
     }
 }
 
-/// The controller of these numbers; none if they name no kind of open pair.
-pub fn controller(numbers: &ControllerNumbers) -> Option<Controller<Both>> {
+/// The controller of these numbers.
+pub fn controller(numbers: &ControllerNumbers) -> Controller<Both> {
     let place = |i| Request::from_numbers(part(numbers, PLACE + 6 * i));
     let summary = |first| Summary::of(numbers[CLOCK], first, part(numbers, EVENT));
     let mut controller = Controller {
         sheet: Sheet::from_numbers(part(numbers, 0)),
         past: Both::without_history(summary(DESL)),
-        opened: opened(numbers[OPEN])?,
+        opened: opened(numbers[OPEN]),
         queue: Queue {
             count: numbers[COUNT],
             places: std::array::from_fn(place),
@@ -98,7 +108,7 @@ pub fn controller(numbers: &ControllerNumbers) -> Option<Controller<Both>> {
     if let Some(first) = controller.opened.and_then(first) {
         controller.past = Both::without_history(summary(first));
     }
-    Some(controller)
+    controller
 }
 
 /// The numbers of a controller.

@@ -13,19 +13,11 @@ use reference::suites::{load, pool, sleep};
 use reference::summary::Summary;
 use reference::word::{DESL, PD};
 
-const KINDS: [Kind; 5] = [
-    Kind::Read,
-    Kind::Write,
-    Kind::Regular,
-    Kind::Extended,
-    Kind::Refresh,
-];
-
 #[test]
 fn pairs_written_are_read_back_whatever_the_ignored_pins() {
     let random = Random::new(1);
     for sheet in pool::parts() {
-        for kind in KINDS {
+        for kind in Kind::ALL {
             for _ in 0..200 {
                 let operation = pool::operation(&random, &sheet, kind, random.below(8));
                 let (first, second) = pool::noisy(&random, &sheet, kind, &operation);
@@ -42,7 +34,7 @@ fn busy_trace(random: &Random, sheet: &Sheet, pairs: u32) -> Vec<u32> {
     let mut words = Vec::new();
     for n in 0..pairs {
         let start_up = [Kind::Extended, Kind::Regular, Kind::Refresh, Kind::Refresh];
-        let kind = *start_up.get(n as usize).unwrap_or(&random.pick(&KINDS));
+        let kind = *start_up.get(n as usize).unwrap_or(&random.pick(&Kind::ALL));
         let operation = pool::operation(random, sheet, kind, random.below(8));
         let pair = pool::noisy(random, sheet, kind, &operation);
         if random.once_in(4) {

@@ -5,6 +5,7 @@ use reference::hand_in::{marker_line, site_number};
 use reference::judge::LONGEST;
 use reference::script::bytes;
 use reference::sheet::{Sheet, SHEET_E};
+use reference::suites::sheets::SPOILED;
 use reference::summary::Summary;
 use reference::word::{DESL, FN, PD};
 
@@ -58,11 +59,8 @@ fn refusals_of_the_site_in_their_order() {
     assert_eq!(long(&SHEET_E, longest + 1), 29);
     assert_eq!(long(&SHEET_E, longest - 1), 29);
     let mut sheet = SHEET_E;
-    let faults = [(33, 9, 17), (22, 5, 0), (21, 4, 0), (34, 10, 5), (20, 0, 0)];
-    for (refusal, field, value) in faults {
-        let mut numbers = sheet.numbers();
-        numbers[field] = value;
-        sheet = Sheet::from_numbers(numbers);
+    for (field, value, refusal) in SPOILED.into_iter().rev() {
+        sheet = sheet.with(field, value);
         for length in [0, 1, 4, longest + 1, longest + 4] {
             assert_eq!(long(&sheet, length), refusal);
         }

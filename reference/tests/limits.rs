@@ -6,41 +6,11 @@ use reference::limits::{check_within, Limits, Shown};
 use reference::random::Random;
 use reference::sheet::{Sheet, SHEET_E};
 use reference::suites::limits::{refused, some_limits};
+use reference::suites::sheets::SPOILED;
 use reference::summary::Summary;
 use reference::word::DESL;
-
-const EXTENDED: [u32; 2] = [0xA0000, 0x84000];
-const REGULAR: [u32; 2] = [0xA0000, 0x80042];
-const REFRESH: [u32; 2] = [0x80000, 0x80000];
-const READ: [u32; 2] = [0xA0000, 0xC0000];
-/// A write of bank 1 with four words in each lane.
-const WRITE: [u32; 2] = [0x84000, 0xD1000];
-/// PD goes low.
-const LOW: [u32; 1] = [0x40000];
-
-/// Words from a clock on.
-type At<'a> = (usize, &'a [u32]);
-
-/// Words at their clocks, DESL between them.
-fn trace(words: &[At]) -> Vec<u32> {
-    let mut trace = Vec::new();
-    for (clock, words) in words {
-        trace.resize(*clock, DESL);
-        trace.extend(*words);
-    }
-    trace
-}
-
-/// The same behind a start-up that every RSC and every REFC up to 40 allows.
-fn started(words: &[At]) -> Vec<u32> {
-    let start_up: [At; 4] = [
-        (0, &EXTENDED),
-        (20, &REGULAR),
-        (40, &REFRESH),
-        (80, &REFRESH),
-    ];
-    trace(&[&start_up, words].concat())
-}
+use reference::written::{started_slowly, trace, At};
+use reference::written::{EXTENDED, LOW, READ, READ_OF_1, REFRESH, REGULAR, WRITE_OF_1};
 
 /// Sheet E with a number at a place among its own.
 fn e(place: usize, value: u32) -> Sheet {
@@ -80,7 +50,7 @@ const ALWAYS: Result<Option<Shown>, u32> = Ok(None);
 fn edge(place: usize, first: &[u32], then: &[u32], clock: usize, number: u32) {
     let least = SHEET_E.numbers()[place];
     let answer = |clock| {
-        let words = started(&[(201, first), (clock, then)]);
+        let words = started_slowly(&[(201, first), (clock, then)]);
         of(place, least, least + 1, &words)
     };
     let last = (clock + then.len() - 1) as u32;
@@ -95,20 +65,19 @@ fn edge(place: usize, first: &[u32], then: &[u32], clock: usize, number: u32) {
 /// E has RBD 2, RSC 7 and REFC 18, and from a LAL on RWD 3 and WRD 1.
 #[test]
 fn each_count_at_its_greatest() {
-    let other_read = [0xA4000, 0xC0000];
-    edge(RBD, &READ, &other_read, 203, 8);
-    edge(RWD, &READ, &WRITE, 205, 8);
-    edge(WRD, &WRITE, &READ, 203, 8);
+    edge(RBD, &READ, &READ_OF_1, 203, 8);
+    edge(RWD, &READ, &WRITE_OF_1, 205, 8);
+    edge(WRD, &WRITE_OF_1, &READ, 203, 8);
     edge(RSC, &REGULAR, &REFRESH, 208, 9);
-    edge(RSC, &EXTENDED, &LOW, 208, 2);
-    edge(REFC, &REFRESH, &WRITE, 219, 10);
-    edge(REFC, &REFRESH, &LOW, 219, 2);
+    edge(RSC, &EXTENDED, &[LOW], 208, 2);
+    edge(REFC, &REFRESH, &WRITE_OF_1, 219, 10);
+    edge(REFC, &REFRESH, &[LOW], 219, 2);
 }
 
 /// The write at 206 is 4 clocks after the read's LAL: RWD 5, 6 and 7 forbid it, whatever the others are.
 #[test]
 fn sheets_between_are_in_breach_too() {
-    let words = started(&[(201, &READ), (206, &WRITE)]);
+    let words = started_slowly(&[(201, &READ), (206, &WRITE_OF_1)]);
     let least = Sheet::from_numbers([37, 4, 4, 16, 4500, 2, 1, 1, 2, 18, 8]);
     let greatest = Sheet::from_numbers([37, 4, 4, 16, 8500, 5, 7, 7, 15, 40, 8]);
     let limits = Limits { least, greatest };
@@ -195,10 +164,10 @@ fn both_ends_of_the_period_and_none_between() {
 
 #[test]
 fn limits_of_one_sheet_and_no_words() {
-    let words = started(&[(201, &READ), (203, &WRITE)]);
+    let words = started_slowly(&[(201, &READ), (203, &WRITE_OF_1)]);
     let answer = within(SHEET_E, SHEET_E, &words);
     assert_eq!(answer, breach(204, 8, RWD, 3));
-    assert_eq!(within(SHEET_E, SHEET_E, &started(&[])), ALWAYS);
+    assert_eq!(within(SHEET_E, SHEET_E, &started_slowly(&[])), ALWAYS);
     let greatest = Sheet::from_numbers([37, 4, 4, 16, 8500, 7, 7, 7, 15, 63, 8]);
     assert_eq!(within(SHEET_E, greatest, &[]), ALWAYS);
 }
@@ -222,22 +191,13 @@ fn corners_and_sheets() {
     assert_eq!(count(greatest), (64, 96));
 }
 
-/// Fields of a sheet with unfit values, by the refusal.
-const UNFIT: [(usize, u32, u32); 5] = [
-    (2, 3, 20),
-    (10, 5, 34),
-    (4, 4499, 21),
-    (8, 16, 22),
-    (9, 17, 33),
-];
-
 #[test]
 fn the_first_sheets_refusals_come_first() {
-    for (place, value, number) in UNFIT {
+    for (place, value, number) in SPOILED {
         let first = e(place, value);
         assert_eq!(within(first, SHEET_E, &[0]), Err(number));
         assert_eq!(within(SHEET_E, first, &[0]), Err(number));
-        for (place, value, other) in UNFIT {
+        for (place, value, other) in SPOILED {
             let second = e(place, value);
             assert_eq!(within(first, second, &[0]), Err(number));
             assert_eq!(within(second, first, &[0]), Err(other));

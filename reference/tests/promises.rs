@@ -2,7 +2,7 @@
 
 use reference::expected::answers;
 use reference::promises::check;
-use reference::script::{bytes, Call};
+use reference::script::{bytes, script, Call};
 
 const READ: [u32; 6] = [0, 2, 7, 9, 0, 0];
 const WRITE: [u32; 6] = [1, 3, 8, 10, 4, 1];
@@ -18,9 +18,8 @@ fn list(ticks: u32) -> (Vec<Call>, String) {
         Call::Tick(ticks),
         Call::Waiting,
     ];
-    let mut script = Vec::new();
-    calls.iter().for_each(|call| call.encode(&mut script));
-    (calls, answers(&bytes(&script)).text)
+    let text = answers(&bytes(&script(&calls))).text;
+    (calls, text)
 }
 
 /// Whether the check finds fault with the text after a change.

@@ -1,67 +1,21 @@
 //! Traces on a sheet and on one that relaxes it: both edges of each count, and a trace for each number in
 //! which the sheets have to agree. Clocks are worked out by hand from the papers.
 
-use reference::history::History;
-use reference::judge::{check, Verdict};
+use reference::both::Both;
+use reference::judge::{breach, check, Verdict};
 use reference::random::Random;
 use reference::script::Call;
 use reference::sheet::{Sheet, SHEET_E};
 use reference::suites::relaxed::{check as hold, relaxes, some_sheets};
-use reference::summary::Summary;
 use reference::word::DESL;
-
-const RDA: u32 = 0xA0000;
-const WRA: u32 = 0x80000;
-/// Reads of the banks 0, 1 and 4, a write of bank 1 with four words in each lane, both modes, a refresh.
-const READ: [u32; 2] = [RDA, 0xC0000];
-const OTHER_READ: [u32; 2] = [0xA4000, 0xC0000];
-const READ_OF_4: [u32; 2] = [0xB0000, 0xC0000];
-const WRITE: [u32; 2] = [0x84000, 0xD1000];
-const EXTENDED: [u32; 2] = [RDA, 0x84000];
-const REGULAR: [u32; 2] = [RDA, 0x80042];
-const REFRESH: [u32; 2] = [WRA, 0x80000];
-/// PD goes low.
-const LOW: [u32; 1] = [0x40000];
-
-/// Words from a clock on.
-type At<'a> = (usize, &'a [u32]);
-
-/// A start-up with more clocks between its pairs than any sheet here asks for.
-const START_UP: [At; 4] = [
-    (0, &EXTENDED),
-    (20, &REGULAR),
-    (40, &REFRESH),
-    (80, &REFRESH),
-];
+use reference::written::{started_slowly, trace, At, LOW, RDA, WRA};
+use reference::written::{EXTENDED, READ, READ_OF_1, READ_OF_4, REFRESH, REGULAR, WRITE_OF_1};
 
 const ACCEPTED: Verdict = Verdict::Accepted;
 
-fn breach(clock: u32, number: u32) -> Verdict {
-    Verdict::Breach { clock, number }
-}
-
-/// Words at their clocks, DESL between them.
-fn trace(words: &[At]) -> Vec<u32> {
-    let mut trace = Vec::new();
-    for (clock, words) in words {
-        trace.resize(*clock, DESL);
-        trace.extend(*words);
-    }
-    trace
-}
-
-/// The same behind the start-up.
-fn started(words: &[At]) -> Vec<u32> {
-    trace(&[&START_UP, words].concat())
-}
-
-/// The verdict of the whole check on both sheets, by the history and by its summary.
+/// The verdict of the whole check on both sheets.
 fn on(sheets: [Sheet; 2], words: &[u32]) -> [Verdict; 2] {
-    sheets.map(|sheet| {
-        let verdict = check::<History>(&sheet, words);
-        assert_eq!(verdict, check::<Summary>(&sheet, words));
-        verdict.expect("an accepted sheet")
-    })
+    sheets.map(|sheet| check::<Both>(&sheet, words).expect("an accepted sheet"))
 }
 
 /// A pair at 201 and further words at each of three clocks in turn: before the edges of both sheets, at
@@ -76,7 +30,7 @@ fn three(sheets: [Sheet; 2], first: &[u32], then: &[u32], clocks: [u32; 3], numb
         (stricter, [ACCEPTED; 2]),
     ];
     for (k, verdicts) in wanted {
-        let words = started(&[(201, first), (k as usize, then)]);
+        let words = started_slowly(&[(201, first), (k as usize, then)]);
         assert_eq!(on(sheets, &words), verdicts, "{number} at {k}");
     }
 }
@@ -105,25 +59,25 @@ fn refc(refc: u32) -> Sheet {
 /// From first word to first word: 3, 4 and 5 clocks after the read at 201.
 #[test]
 fn edges_of_rbd() {
-    three([rbd(5), rbd(4)], &READ, &OTHER_READ, [204, 205, 206], 8);
+    three([rbd(5), rbd(4)], &READ, &READ_OF_1, [204, 205, 206], 8);
     // RBD 2 cannot be undercut.
-    let words = started(&[(201, &READ), (203, &OTHER_READ)]);
+    let words = started_slowly(&[(201, &READ), (203, &READ_OF_1)]);
     assert_eq!(on([rbd(3), SHEET_E], &words), [breach(204, 8), ACCEPTED]);
 }
 
 /// From the LAL at 202.
 #[test]
 fn edges_of_rwd() {
-    three([rwd(4), SHEET_E], &READ, &WRITE, [204, 205, 206], 8);
-    three([SHEET_E, rwd(2)], &READ, &WRITE, [203, 204, 205], 8);
-    three([rwd(7), rwd(2)], &READ, &WRITE, [203, 208, 209], 8);
+    three([rwd(4), SHEET_E], &READ, &WRITE_OF_1, [204, 205, 206], 8);
+    three([SHEET_E, rwd(2)], &READ, &WRITE_OF_1, [203, 204, 205], 8);
+    three([rwd(7), rwd(2)], &READ, &WRITE_OF_1, [203, 208, 209], 8);
 }
 
 #[test]
 fn edges_of_wrd() {
-    three([wrd(3), wrd(2)], &WRITE, &READ, [203, 204, 205], 8);
+    three([wrd(3), wrd(2)], &WRITE_OF_1, &READ, [203, 204, 205], 8);
     // WRD 1 cannot be undercut.
-    let words = started(&[(201, &WRITE), (203, &READ)]);
+    let words = started_slowly(&[(201, &WRITE_OF_1), (203, &READ)]);
     assert_eq!(on([wrd(2), SHEET_E], &words), [breach(204, 8), ACCEPTED]);
 }
 
@@ -133,18 +87,24 @@ fn edges_of_rsc() {
     for mode in [&EXTENDED, &REGULAR] {
         three([rsc(8), SHEET_E], mode, &REFRESH, [207, 208, 209], 9);
         three([SHEET_E, rsc(6)], mode, &READ, [206, 207, 208], 9);
-        three([rsc(8), SHEET_E], mode, &LOW, [207, 208, 209], 2);
-        three([SHEET_E, rsc(6)], mode, &LOW, [206, 207, 208], 2);
+        three([rsc(8), SHEET_E], mode, &[LOW], [207, 208, 209], 2);
+        three([SHEET_E, rsc(6)], mode, &[LOW], [206, 207, 208], 2);
     }
 }
 
 #[test]
 fn edges_of_refc() {
     three([refc(19), SHEET_E], &REFRESH, &REFRESH, [218, 219, 220], 10);
-    three([refc(19), SHEET_E], &REFRESH, &WRITE, [218, 219, 220], 10);
-    three([refc(19), SHEET_E], &REFRESH, &LOW, [218, 219, 220], 2);
+    three(
+        [refc(19), SHEET_E],
+        &REFRESH,
+        &WRITE_OF_1,
+        [218, 219, 220],
+        10,
+    );
+    three([refc(19), SHEET_E], &REFRESH, &[LOW], [218, 219, 220], 2);
     // Below 18 a sheet is refused at CL 4, and not at CL 5, whose mode is 80052.
-    assert_eq!(check::<History>(&refc(17), &[]), Err(33));
+    assert_eq!(check::<Both>(&refc(17), &[]), Err(33));
     assert!(!relaxes(&SHEET_E, &refc(17)));
     let at_cl_5 = |refc| Sheet {
         cl: 5,
@@ -163,17 +123,17 @@ fn edges_of_refc() {
 /// mends that.
 #[test]
 fn breaches_that_are_left() {
-    let words = started(&[(201, &READ), (206, &REFRESH), (208, &WRITE)]);
+    let words = started_slowly(&[(201, &READ), (206, &REFRESH), (208, &WRITE_OF_1)]);
     assert_eq!(
         on([rwd(7), SHEET_E], &words),
         [breach(209, 8), breach(209, 10)]
     );
-    let words = started(&[(201, &READ), (205, &WRITE), (209, &OTHER_READ)]);
+    let words = started_slowly(&[(201, &READ), (205, &WRITE_OF_1), (209, &READ_OF_1)]);
     assert_eq!(
         on([rwd(4), SHEET_E], &words),
         [breach(206, 8), breach(210, 7)]
     );
-    let words = started(&[(201, &READ), (203, &EXTENDED)]);
+    let words = started_slowly(&[(201, &READ), (203, &EXTENDED)]);
     assert_eq!(on([rsc(15), rsc(2)], &words), [breach(204, 11); 2]);
 }
 
@@ -187,7 +147,13 @@ fn the_grade_may_differ() {
         ..SHEET_E
     };
     for [old, new] in [[37, 50], [50, 37]] {
-        three([of(old, 4), of(new, 3)], &READ, &WRITE, [204, 205, 206], 8);
+        three(
+            [of(old, 4), of(new, 3)],
+            &READ,
+            &WRITE_OF_1,
+            [204, 205, 206],
+            8,
+        );
         assert!(relaxes(&of(old, 3), &of(new, 3)));
     }
     let too_short = Sheet {
@@ -210,7 +176,10 @@ fn cl_and_bl_have_to_agree() {
         Sheet { bl: 2, ..slow },
     ] {
         assert!(!relaxes(&slow, &other));
-        assert_eq!(on([slow, other], &started(&[])), [ACCEPTED, breach(21, 4)]);
+        assert_eq!(
+            on([slow, other], &started_slowly(&[])),
+            [ACCEPTED, breach(21, 4)]
+        );
     }
 }
 
@@ -218,7 +187,7 @@ fn cl_and_bl_have_to_agree() {
 #[test]
 fn the_organisation_has_to_agree() {
     let by_8 = Sheet { org: 8, ..SHEET_E };
-    let words = started(&[(201, &[WRA, 0xD0000])]);
+    let words = started_slowly(&[(201, &[WRA, 0xD0000])]);
     assert!(!relaxes(&by_8, &SHEET_E));
     assert_eq!(on([by_8, SHEET_E], &words), [ACCEPTED, breach(202, 5)]);
 }
@@ -245,7 +214,7 @@ fn the_wiring_has_to_agree() {
         wiring: 4,
         ..SHEET_E
     };
-    let words = started(&[(201, &READ), (205, &READ_OF_4)]);
+    let words = started_slowly(&[(201, &READ), (205, &READ_OF_4)]);
     assert!(!relaxes(&SHEET_E, &of_four));
     assert_eq!(on([SHEET_E, of_four], &words), [ACCEPTED, breach(206, 7)]);
 }

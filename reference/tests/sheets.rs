@@ -18,9 +18,7 @@ const SHORT: Sheet = Sheet {
 
 /// The refusal of SHORT with another value in one field.
 fn short_with(field: usize, value: u32) -> Option<u32> {
-    let mut numbers = SHORT.numbers();
-    numbers[field] = value;
-    Sheet::from_numbers(numbers).refusal()
+    SHORT.with(field, value).refusal()
 }
 
 #[test]

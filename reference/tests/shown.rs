@@ -2,10 +2,11 @@
 
 use reference::expected::{answers, expected, Answers};
 use reference::random::Random;
-use reference::script::{bytes, Call};
+use reference::script::{bytes, script, Call};
 use reference::sheet::{Sheet, SHEET_E};
 use reference::suites::{limits, pool};
 use reference::word::DESL;
+use reference::written::{started_slowly, READ, WRITE_OF_1};
 
 /// Sheet E with RWD 7, RSC 8 and a period of 5001.
 const GREATEST: Sheet = Sheet {
@@ -17,43 +18,19 @@ const GREATEST: Sheet = Sheet {
 
 /// A start-up, a read at 201 and a write at 206, which RWD 5, 6 and 7 forbid.
 fn words() -> Vec<u32> {
-    let pairs = [
-        (0, [0xA0000, 0x84000]),
-        (20, [0xA0000, 0x80042]),
-        (40, [0x80000, 0x80000]),
-        (80, [0x80000, 0x80000]),
-        (201, [0xA0000, 0xC0000]),
-        (206, [0x84000, 0xD1000]),
-    ];
-    let mut words = Vec::new();
-    for (clock, pair) in pairs {
-        words.resize(clock, DESL);
-        words.extend(pair);
-    }
-    words
+    started_slowly(&[(201, &READ), (206, &WRITE_OF_1)])
 }
 
 /// Steps, the call, and what stands behind it, on sheet E.
-fn script(greatest: Sheet, words: Vec<u32>) -> Vec<u32> {
-    let calls = [
-        Call::Step {
-            count: 9,
-            word: DESL,
-        },
-        Call::CheckWithin(greatest.numbers(), words),
-        Call::Step {
-            count: 0,
-            word: DESL,
-        },
-    ];
-    let mut script = Vec::new();
-    calls.iter().for_each(|call| call.encode(&mut script));
-    script
+fn up_to(greatest: Sheet, words: Vec<u32>) -> Vec<u32> {
+    let step = |count| Call::Step { count, word: DESL };
+    let call = Call::CheckWithin(greatest.numbers(), words);
+    script(&[step(9), call, step(0)])
 }
 
 /// What the reference has for these words up to a sheet, and its line.
 fn played(greatest: Sheet, words: Vec<u32>) -> (Answers, String) {
-    let answers = answers(&bytes(&script(greatest, words)));
+    let answers = answers(&bytes(&up_to(greatest, words)));
     let line = answers.text.lines().nth(1).unwrap().to_string();
     (answers, line)
 }
@@ -73,22 +50,21 @@ fn a_line_of_the_call() {
     let greatest = Sheet { rwd: 5, ..SHEET_E };
     let line = "breach 207 8 on 37 4 4 16 5000 2 5 1 7 18 8";
     let text = format!("pass 9\n{line}\npass 9\n");
-    assert_eq!(expected(&script(greatest, words())), text);
+    assert_eq!(expected(&up_to(greatest, words())), text);
     let greatest = Sheet { rwd: 4, ..SHEET_E };
-    let text = expected(&script(greatest, words()));
+    let text = expected(&up_to(greatest, words()));
     assert_eq!(text, "pass 9\nalways\npass 9\n");
     let of_four = Sheet {
         wiring: 4,
         ..SHEET_E
     };
-    let text = expected(&script(of_four, vec![]));
+    let text = expected(&up_to(of_four, vec![]));
     assert_eq!(text, "pass 9\nrefused 35\npass 9\n");
 }
 
 #[test]
 fn a_call_cut_short() {
-    let mut whole = Vec::new();
-    Call::CheckWithin(GREATEST.numbers(), vec![DESL; 2]).encode(&mut whole);
+    let whole = script(&[Call::CheckWithin(GREATEST.numbers(), vec![DESL; 2])]);
     assert_eq!(whole[0], 15);
     assert_eq!(expected(&whole), "always\n");
     for cut in 1..whole.len() {
@@ -187,11 +163,9 @@ fn other_sheets_pass_for_ours() {
     let mut other = 0;
     for part in pool::parts() {
         for case in limits::directed(&random, &part) {
-            let mut script = Vec::new();
-            pool::config(&random, &case.limits.least).encode(&mut script);
-            let greatest = case.limits.greatest.numbers();
-            Call::CheckWithin(greatest, case.words).encode(&mut script);
-            let answers = answers(&bytes(&script));
+            let config = pool::config(&random, &case.limits.least);
+            let call = Call::CheckWithin(case.limits.greatest.numbers(), case.words);
+            let answers = answers(&bytes(&script(&[config, call])));
             let text = answers.otherwise();
             assert_eq!(answers.as_ours(&text), answers.text);
             other += usize::from(text != answers.text);

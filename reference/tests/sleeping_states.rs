@@ -3,12 +3,12 @@
 
 use reference::checker::Step;
 use reference::expected::expected;
-use reference::sheet::{Sheet, NUMBERS, SHEET_E};
-use reference::state::{self, CheckerNumbers, CHECKER, CLOCK, EVENT, OPEN};
+use reference::sheet::{Sheet, SHEET_E};
+use reference::state::{self, bare_checker, CheckerNumbers, CLOCK, EVENT, OPEN};
 use reference::walk::Walk;
 use reference::word::DESL;
+use reference::written::LOW;
 
-const LOW: u32 = 0x40000;
 /// What a checker keeps while PD is low, and after the first wake-up word.
 const ASLEEP: u32 = 0x40000;
 const WAKE_UP: u32 = 0xE0000;
@@ -18,16 +18,9 @@ const READ: usize = EVENT + 3;
 const WRITE: usize = EVENT + 4;
 const LAST_REF: usize = EVENT + 13;
 
-/// A checker that remembers nothing.
-fn checker_on(sheet: &Sheet, clock: u32, first: u32) -> CheckerNumbers {
-    let mut numbers = [0; CHECKER];
-    numbers[..NUMBERS].copy_from_slice(&sheet.numbers());
-    (numbers[CLOCK], numbers[OPEN]) = (clock, first);
-    numbers
-}
-
+/// A checker on sheet E that remembers nothing.
 fn checker(clock: u32, first: u32) -> CheckerNumbers {
-    checker_on(&SHEET_E, clock, first)
+    bare_checker(&SHEET_E, clock, first)
 }
 
 /// The answer to a word, and the number for what the next one meets. A walk gives and leaves the same.
@@ -126,7 +119,7 @@ fn timestamps() {
     ];
     for (sheet, event, latest) in rows {
         for (first, goes_low) in [(DESL, true), (ASLEEP, false)] {
-            let mut numbers = checker_on(&sheet, 300, first);
+            let mut numbers = bare_checker(&sheet, 300, first);
             numbers[event] = latest;
             assert_eq!(step(&numbers, LOW), (Step::Pass, ASLEEP), "{event}");
             numbers[event] = latest + 1;

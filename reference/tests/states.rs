@@ -5,15 +5,13 @@ use reference::checker::{Checker, Step};
 use reference::controller::Controller;
 use reference::coverage::Coverage;
 use reference::judge::LONGEST;
-use reference::pair::Request;
+use reference::pair::{self, Operation, Request};
 use reference::past::Past;
 use reference::random::Random;
-use reference::sheet::{NUMBERS, SHEET_E};
-use reference::state::{
-    self, CheckerNumbers, ControllerNumbers, BREACH, CHECKER, CLOCK, CONTROLLER, COUNT, EVENT,
-    OPEN, PLACE,
-};
-use reference::suites::{near, pool};
+use reference::sheet::SHEET_E;
+use reference::state::{self, CheckerNumbers, ControllerNumbers};
+use reference::state::{BREACH, CLOCK, CONTROLLER, COUNT, EVENT, OPEN, PLACE};
+use reference::suites::{near, pool, sheets::SPOILED};
 use reference::summary::EVENTS;
 use reference::walk::Walk;
 use reference::word::{DESL, PD};
@@ -21,21 +19,9 @@ use reference::word::{DESL, PD};
 const READ: [u32; 6] = [0, 7, 16_383, 255, 0, 0];
 const WRITE: [u32; 6] = [1, 0, 0, 0, 4, 1];
 
-/// Fields of a sheet with unfit values, the refusal that is tried last first.
-const FAULTS: [(usize, u32, u32); 5] = [
-    (9, 17, 33),
-    (8, 16, 22),
-    (4, 4499, 21),
-    (10, 5, 34),
-    (2, 3, 20),
-];
-
 /// A checker on sheet E that remembers nothing.
 fn checker(clock: u32, first: u32) -> CheckerNumbers {
-    let mut numbers = [0; CHECKER];
-    numbers[..NUMBERS].copy_from_slice(&SHEET_E.numbers());
-    (numbers[CLOCK], numbers[OPEN]) = (clock, first);
-    numbers
+    state::bare_checker(&SHEET_E, clock, first)
 }
 
 /// A controller on sheet E with reads and writes waiting in turn, in all places.
@@ -56,7 +42,7 @@ fn step(numbers: &CheckerNumbers) -> Step {
 
 /// What a tick and an offer are refused for; neither changes the state then.
 fn refusals(numbers: &ControllerNumbers) -> [Option<u32>; 2] {
-    let mut put = state::controller(numbers).unwrap();
+    let mut put = state::controller(numbers);
     let refusals = [
         put.tick().err(),
         put.offer(Request::from_numbers(READ)).err(),
@@ -112,6 +98,11 @@ fn what_waits_and_what_is_open() {
     assert_eq!(refusals(&controller(1, 4, 1)), [None; 2]);
     assert_eq!(refusals(&controller(1, 4, 0)), [Some(19); 2]);
     assert_eq!(refusals(&controller(0, 4, 1)), [Some(19); 2]);
+    assert_eq!(refusals(&controller(1, 4 + 2, 3)), [None; 2]);
+    assert_eq!(refusals(&controller(1, 4 + 3, 3)), [Some(19); 2]);
+    assert_eq!(refusals(&controller(1, 4 + 15, 16)), [None; 2]);
+    assert_eq!(refusals(&controller(1, 4 + 16, 16)), [Some(19); 2]);
+    assert_eq!(refusals(&controller(1, u32::MAX, 16)), [Some(19); 2]);
     assert_eq!(refusals(&controller(0, 1, 0)), [Some(19); 2]);
     assert_eq!(refusals(&controller(LONGEST, 0, 16)), [Some(24), Some(27)]);
     assert_eq!(refusals(&controller(LONGEST, 0, 17)), [Some(19); 2]);
@@ -134,7 +125,7 @@ fn refusals_in_their_order() {
     numbers[EVENT] = LONGEST;
     assert_eq!(step(&numbers), Step::Refused(19));
     assert_eq!(walk(&numbers), Some(Step::Refused(19)));
-    for (field, value, number) in FAULTS {
+    for (field, value, number) in SPOILED.into_iter().rev() {
         numbers[field] = value;
         assert_eq!(step(&numbers), Step::Refused(number));
         assert_eq!(walk(&numbers), Some(Step::Refused(number)));
@@ -146,7 +137,7 @@ fn refusals_in_their_order() {
 fn sheets_of_controllers() {
     for count in [0, 16, 17] {
         let mut numbers = controller(LONGEST, 0, count);
-        for (field, value, number) in FAULTS {
+        for (field, value, number) in SPOILED.into_iter().rev() {
             numbers[field] = value;
             assert_eq!(refusals(&numbers), [Some(number); 2]);
         }
@@ -172,11 +163,11 @@ fn the_furthest_refresh_decides() {
     }
 }
 
-/// A request that leaves: the others move up, their last place is vacant, those behind stay.
+/// A request that leaves: the younger ones move up, their last place is vacant, those behind stay.
 #[test]
 fn places_of_the_queue() {
     let mut numbers = controller(9, 4, 3);
-    let mut put = state::controller(&numbers).unwrap();
+    let mut put = state::controller(&numbers);
     put.tick().unwrap();
     let vacant = [0; 6];
     numbers[PLACE..PLACE + 18].copy_from_slice(&[WRITE, READ, vacant].concat());
@@ -185,6 +176,27 @@ fn places_of_the_queue() {
     numbers[PLACE + 12..PLACE + 18].copy_from_slice(&WRITE);
     assert_eq!(state::controller_numbers(&put)[COUNT], 3);
     assert_eq!(state::controller_numbers(&put)[PLACE..], numbers[PLACE..]);
+}
+
+/// A request whose pair is open at another place than the first: its closing word goes out, and it leaves
+/// from there, whatever is older.
+#[test]
+fn a_place_that_is_not_the_first() {
+    for (place, request, left) in [
+        (1, WRITE, [READ, READ, WRITE]),
+        (2, READ, [READ, WRITE, WRITE]),
+        (3, WRITE, [READ, WRITE, READ]),
+    ] {
+        let mut put = state::controller(&controller(9, 4 + place, 4));
+        let access = Operation::Access(Request::from_numbers(request));
+        let (_, closing) = pair::write(&SHEET_E, &access).unwrap();
+        assert_eq!(put.tick(), Ok(closing), "place {place}");
+        let after = state::controller_numbers(&put);
+        assert_eq!((after[OPEN], after[COUNT]), (0, 3));
+        assert_eq!(after[PLACE..PLACE + 18], left.concat());
+        assert_eq!(after[PLACE + 18..PLACE + 24], [0; 6]);
+        assert_eq!(after[PLACE + 24..], controller(9, 0, 4)[PLACE + 24..]);
+    }
 }
 
 /// A checker that is put where a run stands goes on as the run does, which has its whole history.
@@ -209,7 +221,7 @@ fn a_checker_put_goes_on_as_the_run() {
     }
 }
 
-/// The same of a controller.
+/// A controller that is put as a run left it goes on as the run does.
 #[test]
 fn a_controller_put_goes_on_as_the_run() {
     let random = Random::new(6);
@@ -220,7 +232,7 @@ fn a_controller_put_goes_on_as_the_run() {
         let turn = random.below(900);
         while run.past.clock() < 1_000 {
             if run.past.clock() == turn {
-                put = state::controller(&state::controller_numbers(&run)).unwrap();
+                put = state::controller(&state::controller_numbers(&run));
             }
             if random.once_in(8) {
                 let request = pool::request(&random, &sheet, random.once_in(2), random.below(8));

@@ -1,8 +1,9 @@
 //! Lengths in time. Nanoseconds and rests are worked out by hand from the paper.
 
 use reference::expected::expected;
-use reference::script::Call;
+use reference::script::{script, Call};
 use reference::sheet::{Sheet, SHEET_E, SHEET_E_OF_FOUR};
+use reference::suites::sheets::SPOILED;
 use reference::suites::time::check;
 use reference::time::{length, Time};
 use reference::word::DESL;
@@ -143,15 +144,6 @@ fn periods_that_are_allowed() {
     }
 }
 
-/// Fields of a sheet with unfit values, in the order of their refusals.
-const UNFIT: [(usize, u32, u32); 5] = [
-    (2, 3, 20),
-    (10, 5, 34),
-    (4, 4499, 21),
-    (8, 16, 22),
-    (9, 17, 33),
-];
-
 #[test]
 fn refusals_in_their_order() {
     for sheet in [SHEET_E, SHEET_E_OF_FOUR, at(8500)] {
@@ -160,9 +152,9 @@ fn refusals_in_their_order() {
             assert_eq!(of(sheet, count), Err(32));
         }
     }
-    for (i, (place, value, number)) in UNFIT.into_iter().enumerate() {
+    for (i, (place, value, number)) in SPOILED.into_iter().enumerate() {
         let unfit = SHEET_E.with(place, value);
-        let later = UNFIT[i..].iter();
+        let later = SPOILED[i..].iter();
         let all = later.fold(SHEET_E, |sheet, field| sheet.with(field.0, field.1));
         for count in [0, 1, LIMIT, LIMIT + 1, u32::MAX] {
             assert_eq!(of(unfit, count), Err(number));
@@ -179,13 +171,6 @@ fn counts_past_32_bits() {
         assert_eq!(length(&SHEET_E, count), Err(32));
         assert_eq!(length(&SHEET_E.with(9, 17), count), Err(33));
     }
-}
-
-/// The script of some calls.
-fn script(calls: &[Call]) -> Vec<u32> {
-    let mut script = Vec::new();
-    calls.iter().for_each(|call| call.encode(&mut script));
-    script
 }
 
 #[test]
@@ -245,7 +230,7 @@ fn right_lines_pass() {
     assert!(found(at(3750), 3, "time 11 250").is_ok());
     assert!(found(SHEET_E, LIMIT, "time 83886080 0").is_ok());
     assert!(found(SHEET_E, LIMIT + 1, "refused 32").is_ok());
-    for (place, value, number) in UNFIT {
+    for (place, value, number) in SPOILED {
         let line = format!("refused {number}");
         let unfit = SHEET_E.with(place, value);
         assert!(found(unfit, 1, &line).is_ok());
@@ -290,7 +275,7 @@ fn nor_do_wrong_refusals() {
     for line in ["time 83886085 0", "time 5 0", "refused 24"] {
         assert!(found(SHEET_E, LIMIT + 1, line).is_err(), "{line}");
     }
-    for (place, value, _) in UNFIT {
+    for (place, value, _) in SPOILED {
         let unfit = SHEET_E.with(place, value);
         for (count, line) in [(LIMIT + 1, "refused 32"), (0, "time 0 0")] {
             assert!(found(unfit, count, line).is_err(), "{place}");

@@ -5,7 +5,8 @@ use reference::controller::Controller;
 use reference::history::History;
 use reference::pair::Request;
 use reference::sheet::{Sheet, SHEET_E, SHEET_E_OF_FOUR};
-use reference::state::{self, CheckerNumbers, CHECKER, CLOCK, CONTROLLER, COUNT, EVENT, PLACE};
+use reference::state::{self, bare_checker, CheckerNumbers};
+use reference::state::{CLOCK, CONTROLLER, COUNT, EVENT, PLACE};
 use reference::wiring::WIRINGS;
 use reference::word::{BA2, DESL};
 
@@ -20,9 +21,7 @@ fn wired(wiring: u32) -> Sheet {
 
 /// A checker of four banks at clock 300 that is ready for reads, the first word of one being open.
 fn open_read(first: u32) -> CheckerNumbers {
-    let mut numbers = [0; CHECKER];
-    numbers[..CLOCK].copy_from_slice(&SHEET_E_OF_FOUR.numbers());
-    (numbers[CLOCK], numbers[CLOCK + 1]) = (300, first);
+    let mut numbers = bare_checker(&SHEET_E_OF_FOUR, 300, first);
     (numbers[EVENT], numbers[EVENT + 1]) = (1, 8);
     (numbers[EVENT + 13], numbers[EVENT + 14]) = (33, 15);
     numbers
@@ -70,7 +69,7 @@ fn requests_of_states() {
         numbers[PLACE..PLACE + 6].copy_from_slice(&request);
         for (wiring, refused) in WIRINGS.into_iter().zip(with).chain([(5, Some(34))]) {
             numbers[..CLOCK].copy_from_slice(&wired(wiring).numbers());
-            let mut put = state::controller(&numbers).unwrap();
+            let mut put = state::controller(&numbers);
             assert_eq!(put.tick().err(), refused, "{request:?}, {wiring}");
         }
     }

@@ -1,10 +1,11 @@
 //! The two wirings: what BA2 carries with each, the ranges, rule 7 and refusal 34.
 
+use reference::both::Both;
 use reference::controller::Controller;
 use reference::coverage::Coverage;
 use reference::expected::expected;
 use reference::history::History;
-use reference::judge::{judge, Verdict};
+use reference::judge::{breach, judge, Verdict};
 use reference::pair::{self, Operation, Request};
 use reference::random::Random;
 use reference::sheet::{Sheet, SHEET_E};
@@ -12,49 +13,20 @@ use reference::suites::{near, pool};
 use reference::summary::Summary;
 use reference::wiring::WIRINGS;
 use reference::word::DESL;
+use reference::written::{started, At, RDA, READ, READ_OF_1, READ_OF_4};
 
-const START_UP: [(usize, u32); 8] = [
-    (0, 0xA0000),
-    (1, 0x84000),
-    (7, 0xA0000),
-    (8, 0x80042),
-    (14, 0x80000),
-    (15, 0x80000),
-    (32, 0x80000),
-    (33, 0x80000),
-];
-/// Reads of the row 0 whose first words differ in BA2 alone.
-const LOW: (u32, u32) = (0xA0000, 0xC0000);
-const HIGH: (u32, u32) = (0xB0000, 0xC0000);
 /// A write with BA2 high in its first word, of four words in each lane.
-const WRITE_HIGH: (u32, u32) = (0x90000, 0xD1000);
-/// Another bank with either wiring.
-const OTHER: (u32, u32) = (0xA4000, 0xC0000);
+const WRITE_OF_4: [u32; 2] = [0x90000, 0xD1000];
 
 /// Sheet E with a wiring.
 fn wired(wiring: u32) -> Sheet {
     Sheet { wiring, ..SHEET_E }
 }
 
-/// The verdict with eight banks and with four on pairs at their clocks after the start-up.
-fn verdicts(pairs: &[(usize, (u32, u32))]) -> [Verdict; 2] {
-    let last = pairs.last().unwrap().0 + 1;
-    let mut words = vec![DESL; last + 1];
-    START_UP
-        .iter()
-        .for_each(|&(clock, word)| words[clock] = word);
-    for &(clock, (first, second)) in pairs {
-        (words[clock], words[clock + 1]) = (first, second);
-    }
-    WIRINGS.map(|wiring| {
-        let verdict = judge::<History>(&wired(wiring), &words);
-        assert_eq!(verdict, judge::<Summary>(&wired(wiring), &words));
-        verdict
-    })
-}
-
-fn breach(clock: u32, number: u32) -> Verdict {
-    Verdict::Breach { clock, number }
+/// The verdict with eight banks and with four on words at their clocks after the start-up.
+fn verdicts(words: &[At]) -> [Verdict; 2] {
+    let words = started(words);
+    WIRINGS.map(|wiring| judge::<Both>(&wired(wiring), &words))
 }
 
 fn read(bank: u32, row: u32) -> Operation {
@@ -111,30 +83,30 @@ fn ranges_of_banks_and_rows() {
 #[test]
 fn one_bank_or_two() {
     let accepted = Verdict::Accepted;
-    for (old, new) in [(LOW, HIGH), (HIGH, LOW)] {
+    for (old, new) in [(&READ, &READ_OF_4), (&READ_OF_4, &READ)] {
         assert_eq!(verdicts(&[(201, old), (206, new)]), [accepted; 2]);
         let early = [accepted, breach(206, 7)];
         assert_eq!(verdicts(&[(201, old), (205, new)]), early);
         // A pair of another bank between them changes nothing.
-        let between = |clock| [(201, old), (203, OTHER), (clock, new)];
-        assert_eq!(verdicts(&between(205)), early);
-        assert_eq!(verdicts(&between(206)), [accepted; 2]);
+        let between = |clock| verdicts(&[(201, old), (203, &READ_OF_1), (clock, new)]);
+        assert_eq!(between(205), early);
+        assert_eq!(between(206), [accepted; 2]);
     }
-    let after_a_write = |clock| [(201, WRITE_HIGH), (clock, LOW)];
-    assert_eq!(verdicts(&after_a_write(205)), [accepted, breach(206, 7)]);
-    assert_eq!(verdicts(&after_a_write(206)), [accepted; 2]);
+    let after_a_write = |clock| verdicts(&[(201, &WRITE_OF_4), (clock, &READ)]);
+    assert_eq!(after_a_write(205), [accepted, breach(206, 7)]);
+    assert_eq!(after_a_write(206), [accepted; 2]);
     // Where both are broken, the lower number stands.
     let both = [breach(205, 8), breach(205, 7)];
-    assert_eq!(verdicts(&[(201, LOW), (204, WRITE_HIGH)]), both);
+    assert_eq!(verdicts(&[(201, &READ), (204, &WRITE_OF_4)]), both);
 }
 
 /// MRS wants BA2 low with either wiring, and a write's lower lane has its VW0 there.
 #[test]
 fn closing_words_are_the_same() {
     for (mode, second) in [("regular", 0x90042), ("extended", 0x94000)] {
-        let pair = (0xA0000, second);
-        assert_eq!(verdicts(&[(201, pair)]), [breach(202, 4); 2], "{mode}");
-        let read = WIRINGS.map(|wiring| pair::read(&wired(wiring), pair.0, second));
+        let verdicts = verdicts(&[(201, &[RDA, second])]);
+        assert_eq!(verdicts, [breach(202, 4); 2], "{mode}");
+        let read = WIRINGS.map(|wiring| pair::read(&wired(wiring), RDA, second));
         assert_eq!(read, [Err(28); 2], "{mode}");
     }
     let write = |lower| Operation::Access(Request::from_numbers([1, 2, 9, 3, lower, 4]));
@@ -150,7 +122,7 @@ fn closing_words_are_the_same() {
         }
         assert_eq!(pair::read(&wired(wiring), 0x88009, 0xC1003), Err(28));
     }
-    assert_eq!(verdicts(&[(201, (0x88009, 0xC1003))]), [breach(202, 5); 2]);
+    assert_eq!(verdicts(&[(201, &[0x88009, 0xC1003])]), [breach(202, 5); 2]);
 }
 
 #[test]
@@ -172,9 +144,7 @@ fn wirings_other_than_four_and_eight() {
         (9, 17, 34),
     ];
     for (field, value, number) in faults.into_iter().chain(later) {
-        let mut numbers = wired(5).numbers();
-        numbers[field] = value;
-        assert_eq!(Sheet::from_numbers(numbers).refusal(), Some(number));
+        assert_eq!(wired(5).with(field, value).refusal(), Some(number));
     }
 }
 
@@ -182,7 +152,7 @@ fn wirings_other_than_four_and_eight() {
 #[test]
 fn a_sheet_without_its_wiring() {
     assert_eq!(Sheet::of_eight(SHEET_E.without_wiring()), SHEET_E);
-    let calls = [6, HIGH.0, HIGH.1, 4, 0, 4, 0, 0, 0, 0, 9];
+    let calls = [6, READ_OF_4[0], READ_OF_4[1], 4, 0, 4, 0, 0, 0, 0, 9];
     let without = [&[1], &SHEET_E.without_wiring()[..], &calls].concat();
     let with = |wiring| [&[13], &wired(wiring).numbers()[..], &calls].concat();
     let of_eight = "config 0\naccess 0 4 0 0 0 0\noffered\nwaiting 1\nrequest 0 4 0 0 0 0\n";

@@ -4,10 +4,10 @@ use crate::run::Run;
 use reference::both::Both;
 use reference::counts::LONGEST_TALLY;
 use reference::coverage::Coverage;
-use reference::judge::LONGEST;
+use reference::judge::{LONGEST, RULES};
 use reference::random::Random;
 use reference::sheet::{SHEET_E, SHEET_E_OF_FOUR};
-use reference::suites::{ba2, load, near, pool, power_down, sheets, tally};
+use reference::suites::{by_hand, load, near, pool, sheets, tally};
 use reference::summary::Summary;
 use reference::wiring::{self, WIRINGS};
 use reference::word::DESL;
@@ -38,7 +38,7 @@ fn promised_of(call: &str, wiring: u32) -> Vec<String> {
     promised.push(name("short", "no fault"));
     match call {
         "walk again" => promised.push(name("short", "refused 23")),
-        _ => promised.extend((1..=13).map(|n| name("short", &format!("breach {n}")))),
+        _ => promised.extend(RULES.map(|n| name("short", &format!("breach {n}")))),
     }
     let long = match (call, wiring) {
         ("check", _) | (_, 8) => &LENGTHS[..],
@@ -80,10 +80,7 @@ pub fn promised() -> Vec<String> {
     let early = [("walk", "breach 2"), ("walk again", "refused 23")];
     let name = |(call, what)| format!("{call}, 16,777,217 words, eight banks: {what}");
     promised.extend(early.map(name));
-    for sheet in pool::parts() {
-        promised.extend(ba2::promised(sheet.bl, sheet.wiring));
-        promised.extend(power_down::promised(sheet.wiring));
-    }
+    promised.extend(pool::parts().iter().flat_map(by_hand::promised));
     promised.extend(tally::promised());
     let asleep = LENGTHS[..3].iter().map(|(_, length)| with_sleeps(length));
     let on =
@@ -112,8 +109,7 @@ pub fn short(run: &mut Run, random: &Random) {
     let mut of_cases = Coverage::default();
     for sheet in pool::parts() {
         let mut judged = |_: &mut Coverage, words: &[u32]| run.all::<Both>(&sheet, words, "short");
-        ba2::each(random, &sheet, &mut of_cases, &mut judged);
-        power_down::each(random, &sheet, &mut of_cases, &mut judged);
+        by_hand::each(random, &sheet, &mut of_cases, &mut judged);
     }
     run.coverage.add(of_cases);
     for _ in 0..200 {

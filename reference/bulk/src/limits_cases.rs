@@ -5,6 +5,7 @@ use crate::last_clock;
 use crate::run::Run;
 use reference::both::Both;
 use reference::coverage::Coverage;
+use reference::judge::RULES;
 use reference::limits::Limits;
 use reference::random::Random;
 use reference::sheet::{Sheet, SHEET_E, SHEET_E_OF_FOUR};
@@ -36,7 +37,7 @@ pub fn promised() -> Vec<String> {
         let mut promise = |lengths: &[&str], answer: &str| {
             promised.extend(names(lengths, wiring, answer));
         };
-        (1..=13).for_each(|number| promise(&["short"], &format!("breach {number}")));
+        RULES.for_each(|number| promise(&["short"], &format!("breach {number}")));
         for number in [20, 34, 21, 22, 33, 35] {
             promise(&["short", longest, longer], &format!("refused {number}"));
         }

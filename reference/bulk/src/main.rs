@@ -11,9 +11,9 @@ mod limits_cases;
 mod run;
 mod time;
 
+use reference::command_line::end;
 use reference::random::Random;
 use run::Run;
-use std::process::exit;
 use std::time::Instant;
 
 const SEED: u64 = 0x5EED_0009;
@@ -42,14 +42,5 @@ fn main() {
         time::promised(),
     ]
     .concat();
-    let sound = run.coverage.report(&promised);
-    println!(
-        "{}",
-        if sound {
-            "all agree"
-        } else {
-            "coverage not met"
-        }
-    );
-    exit(if sound { 0 } else { 1 });
+    end(run.coverage.report(&promised))
 }

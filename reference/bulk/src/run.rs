@@ -2,8 +2,10 @@
 
 use crate::answers::{breach_of, check_number, count_numbers, meaning, walk_numbers};
 use crate::call;
+use reference::command_line::keep;
 use reference::coverage::Coverage;
 use reference::past::Past;
+use reference::script::bytes;
 use reference::sheet::Sheet;
 use reference::wiring;
 use std::process::exit;
@@ -106,9 +108,6 @@ pub fn report(call: &str, wanted: &str, got: &str) {
 /// Reports a difference on a trace, keeps it and ends the program.
 pub fn fail(call: &str, words: &[u32], wanted: &str, got: &str) -> ! {
     report(&format!("{call} on {} words", words.len()), wanted, got);
-    let kept = std::env::temp_dir().join("bulk-difference.bin");
-    let bytes = reference::script::bytes(words);
-    std::fs::write(&kept, bytes).expect("the difference can be written");
-    println!("  trace: {}", kept.display());
+    keep("trace", "bulk-difference.bin", &bytes(words));
     exit(1)
 }

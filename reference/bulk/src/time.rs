@@ -6,7 +6,8 @@ use crate::call;
 use crate::run::{on, report, Run, UNTOUCHED};
 use reference::judge::LONGEST;
 use reference::random::Random;
-use reference::sheet::Sheet;
+use reference::sheet::{Sheet, SHEET_E};
+use reference::suites::rows::time::PAST_32_BITS;
 use reference::suites::{pool, sheets};
 use reference::time::length;
 use reference::wiring::{self, WIRINGS};
@@ -32,7 +33,7 @@ const ABOVE: [(u64, &str); 8] = [
     (LIMIT + 1, "16,777,217 words"),
     ((1 << 32) - 1, "2^32 - 1 words"),
     (1 << 32, "2^32 words"),
-    ((1 << 32) + 1, "2^32 + 1 words"),
+    (PAST_32_BITS.0, "2^32 + 1 words"),
     ((1 << 32) + LIMIT, "2^32 + 16,777,216 words"),
     ((1 << 32) + LIMIT + 1, "2^32 + 16,777,217 words"),
     (1 << 63, "2^63 words"),
@@ -63,11 +64,11 @@ pub fn promised() -> Vec<String> {
     promised
 }
 
-/// Every count on the corners of every part, on sheets at random, and on refused ones.
+/// Every count on sheet E, on the corners of every part, on sheets at random, and on refused ones.
 pub fn each(run: &mut Run, random: &Random) {
     let drawn = (0..2_000).map(|_| pool::sheet(random));
-    let all = [pool::corners(), drawn.collect(), sheets::refused()].concat();
-    for sheet in all {
+    let accepted = [vec![SHEET_E], pool::corners(), drawn.collect()].concat();
+    for sheet in [accepted, sheets::refused()].concat() {
         for (count, name) in counts() {
             run.time(&sheet, count, name);
         }

@@ -2,79 +2,52 @@
 
 use reference::sheet::Sheet;
 
-mod archive {
-    extern "C" {
-        pub fn fcram_check(
-            grade: u32,
-            cl: u32,
-            bl: u32,
-            organisation: u32,
-            period: u32,
-            rbd: u32,
-            rwd: u32,
-            wrd: u32,
-            rsc: u32,
-            refc: u32,
-            bytes: *const u8,
-            length: usize,
-        ) -> u32;
+/// Declares the archive's two functions with numbers of a type.
+macro_rules! declared {
+    ($name:ident, $number:ty) => {
+        mod $name {
+            #[allow(clashing_extern_declarations)]
+            extern "C" {
+                #[link_name = "fcram_check"]
+                pub fn check(
+                    grade: $number,
+                    cl: $number,
+                    bl: $number,
+                    organisation: $number,
+                    period: $number,
+                    rbd: $number,
+                    rwd: $number,
+                    wrd: $number,
+                    rsc: $number,
+                    refc: $number,
+                    bytes: *const u8,
+                    length: usize,
+                ) -> u32;
 
-        pub fn fcram_check_wired(
-            grade: u32,
-            cl: u32,
-            bl: u32,
-            organisation: u32,
-            period: u32,
-            rbd: u32,
-            rwd: u32,
-            wrd: u32,
-            rsc: u32,
-            refc: u32,
-            wiring: u32,
-            bytes: *const u8,
-            length: usize,
-        ) -> u32;
-    }
+                #[link_name = "fcram_check_wired"]
+                pub fn check_wired(
+                    grade: $number,
+                    cl: $number,
+                    bl: $number,
+                    organisation: $number,
+                    period: $number,
+                    rbd: $number,
+                    rwd: $number,
+                    wrd: $number,
+                    rsc: $number,
+                    refc: $number,
+                    wiring: $number,
+                    bytes: *const u8,
+                    length: usize,
+                ) -> u32;
+            }
+        }
+    };
 }
 
-/// The same functions; a 32-bit number takes a whole register or stack slot of 64 bits.
-mod wide {
-    #[allow(clashing_extern_declarations)]
-    extern "C" {
-        #[link_name = "fcram_check"]
-        pub fn check(
-            grade: u64,
-            cl: u64,
-            bl: u64,
-            organisation: u64,
-            period: u64,
-            rbd: u64,
-            rwd: u64,
-            wrd: u64,
-            rsc: u64,
-            refc: u64,
-            bytes: *const u8,
-            length: usize,
-        ) -> u32;
-
-        #[link_name = "fcram_check_wired"]
-        pub fn check_wired(
-            grade: u64,
-            cl: u64,
-            bl: u64,
-            organisation: u64,
-            period: u64,
-            rbd: u64,
-            rwd: u64,
-            wrd: u64,
-            rsc: u64,
-            refc: u64,
-            wiring: u64,
-            bytes: *const u8,
-            length: usize,
-        ) -> u32;
-    }
-}
+declared!(archive, u32);
+// The same functions; a 32-bit number takes a whole register or stack slot of 64 bits.
+declared!(wide, u64);
 
 /// The call that takes the wiring, and the one without, which means eight banks.
 #[derive(Clone, Copy, Debug, PartialEq, Eq)]
@@ -108,9 +81,9 @@ impl Form {
         let [a, b, c, d, e, f, g, h, i, j, wiring] = sheet.numbers();
         match self {
             Form::Wired => {
-                archive::fcram_check_wired(a, b, c, d, e, f, g, h, i, j, wiring, bytes, length)
+                archive::check_wired(a, b, c, d, e, f, g, h, i, j, wiring, bytes, length)
             }
-            Form::OfEight => archive::fcram_check(a, b, c, d, e, f, g, h, i, j, bytes, length),
+            Form::OfEight => archive::check(a, b, c, d, e, f, g, h, i, j, bytes, length),
         }
     }
 

@@ -5,6 +5,9 @@ compile_error!("the calls and the memory here are those of Linux with 64 bits");
 
 pub mod call;
 pub mod cases;
+pub mod clock;
+pub mod layouts;
 pub mod memory;
 pub mod plain;
 pub mod run;
+pub mod sound;

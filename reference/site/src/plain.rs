@@ -3,6 +3,7 @@
 
 use reference::hand_in::site_refusal;
 use reference::sheet::Sheet;
+use std::arch::asm;
 
 const FN: u32 = 1 << 17;
 const CS: u32 = 1 << 18;
@@ -82,7 +83,7 @@ impl<'a> Checker<'a> {
     }
 
     /// Takes the word at clock k in; the breach number, or 0.
-    #[inline]
+    #[inline(always)]
     fn step(&mut self, k: u32, word: u32) -> u32 {
         if word >> 19 != 1 {
             return if word >> 20 != 0 {
@@ -118,7 +119,7 @@ impl<'a> Checker<'a> {
     }
 
     /// A word with PD low.
-    #[inline]
+    #[inline(always)]
     fn low(&mut self, k: u32, word: u32) -> u32 {
         if self.met != ASLEEP {
             if !self.may_go_low(k, word) {
@@ -152,7 +153,7 @@ impl<'a> Checker<'a> {
     }
 
     /// A read or write at u.
-    #[inline]
+    #[inline(always)]
     fn access(&mut self, u: u32, first: u32, write: bool) -> u32 {
         let bank = (first >> 14 & self.banks & 7) as usize;
         let from = if write {
@@ -266,8 +267,14 @@ impl<'a> Checker<'a> {
     }
 }
 
-/// The exam site's number for a trace.
-pub fn check(sheet: &Sheet, bytes: &[u8]) -> u32 {
+/// The exam site's number for a trace. In front of the loop stand so many bytes that are never run, which
+/// move it to another place.
+#[inline(never)]
+pub fn check<const PADDING: usize>(sheet: &Sheet, bytes: &[u8]) -> u32 {
+    // SAFETY: a jump over bytes that nothing else jumps to.
+    unsafe {
+        asm!("jmp 2f", ".skip {bytes}", "2:", bytes = const PADDING, options(nomem, nostack, preserves_flags))
+    };
     if let Some(number) = site_refusal(sheet, bytes.len()) {
         return number;
     }

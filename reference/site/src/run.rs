@@ -3,6 +3,7 @@
 use crate::call::Form;
 use crate::memory::Edge;
 use reference::both::Both;
+use reference::command_line::keep;
 use reference::coverage::Coverage;
 use reference::hand_in::{site_number, site_refusal};
 use reference::judge::LONGEST;
@@ -171,9 +172,7 @@ pub fn fail(sheet: &Sheet, bytes: &[u8], wanted: &str, got: &str) -> ! {
     );
     println!("  reference: {wanted}");
     println!("  archive:   {got}");
-    let kept = std::env::temp_dir().join("site-difference.bin");
     let most = bytes.len().min(1 << 27);
-    std::fs::write(&kept, &bytes[..most]).expect("the difference can be written");
-    println!("  trace: {}", kept.display());
+    keep("trace", "site-difference.bin", &bytes[..most]);
     exit(1)
 }

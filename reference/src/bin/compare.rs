@@ -1,16 +1,14 @@
 //! Plays the suites' scripts on the replay program and compares its text with this implementation's.
 
+use reference::command_line::{end, keep, Arguments};
 use reference::coverage::Coverage;
 use reference::expected::{answers, Answers};
 use reference::program::{run, Feed};
-use reference::script::{bytes, Call, Packer};
+use reference::script::{bytes, script, Call, Packer};
 use reference::suites::{Suite, SUITES};
 use std::path::{Path, PathBuf};
 use std::process::exit;
 use std::time::{Duration, Instant};
-
-const USAGE: &str = "compare --replay PATH|self [--scale N] \
-    [pairs] [checker] [controller] [scripts] [states] [relaxed] [limits] [time]";
 
 /// The program under comparison: a file, or none to play the scripts on this implementation.
 struct Program(Option<PathBuf>);
@@ -85,7 +83,7 @@ fn difference(wanted: &Answers, text: &str) -> Option<(usize, String)> {
 }
 
 /// Reports a fault at a call, writes the script that shows it, and ends the program.
-fn fail(script: &[u8], wanted: &Answers, call: usize, fault: &str) -> ! {
+fn fail(played: &[u8], wanted: &Answers, call: usize, fault: &str) -> ! {
     println!("FAILED at call {call}: {fault}");
     let mut shown = wanted
         .calls
@@ -93,31 +91,26 @@ fn fail(script: &[u8], wanted: &Answers, call: usize, fault: &str) -> ! {
         .map_or("(end)".to_string(), |c| format!("{c:?}"));
     shown.truncate(400);
     println!("  call: {shown}");
-    let whole = std::env::temp_dir().join("reference-difference.hex");
-    let short = std::env::temp_dir().join("reference-difference-short.hex");
-    let hex = |bytes: &[u8]| -> String {
-        let line = |b: &[u8]| {
-            b.iter()
-                .rev()
-                .map(|b| format!("{b:02X}"))
-                .collect::<String>()
-                + "\n"
-        };
-        bytes.chunks(4).map(line).collect()
-    };
-    std::fs::write(&whole, hex(script)).expect("the difference can be written");
-    println!("  script: {}", whole.display());
+    keep("script", "reference-difference.hex", &hex(played));
     // The calls since the last configuration show the same, if every group begins with one.
-    let played = &wanted.calls[..wanted.calls.len().min(call + 1)];
+    let calls = &wanted.calls[..wanted.calls.len().min(call + 1)];
     let fresh = |call: &Call| call.sheet().is_some();
-    let from = played.iter().rposition(fresh).unwrap_or(0);
-    let mut words = Vec::new();
-    played[from..]
-        .iter()
-        .for_each(|call| call.encode(&mut words));
-    std::fs::write(&short, hex(&bytes(&words))).expect("the difference can be written");
-    println!("  from its configuration on: {}", short.display());
+    let from = calls.iter().rposition(fresh).unwrap_or(0);
+    let short = hex(&bytes(&script(&calls[from..])));
+    keep(
+        "from its configuration on",
+        "reference-difference-short.hex",
+        &short,
+    );
     exit(1)
+}
+
+/// The words of a script as lines in hexadecimal.
+fn hex(script: &[u8]) -> Vec<u8> {
+    let digits = |byte: &u8| format!("{byte:02X}");
+    let line = |word: &[u8]| word.iter().rev().map(digits).collect::<String>() + "\n";
+    let lines: String = script.chunks(4).map(line).collect();
+    lines.into_bytes()
 }
 
 /// Runs one suite and tells whether it met all that it promised.
@@ -168,24 +161,12 @@ fn run_unready(path: &Path) -> bool {
 }
 
 fn main() {
-    let mut program = None;
-    let mut scale = 1;
-    let mut chosen: Vec<String> = Vec::new();
-    let mut arguments = std::env::args().skip(1);
-    while let Some(argument) = arguments.next() {
-        match argument.as_str() {
-            "--replay" => program = arguments.next(),
-            "--scale" => scale = arguments.next().and_then(|n| n.parse().ok()).expect(USAGE),
-            _ => chosen.push(argument),
-        }
-    }
-    let program = match program.expect(USAGE).as_str() {
-        "self" => Program(None),
-        path => Program(Some(PathBuf::from(path))),
-    };
-    for name in &chosen {
-        assert!(SUITES.iter().any(|s| s.name == name), "no suite {name}");
-    }
+    let suites = SUITES.map(|suite| suite.name);
+    let usage = format!("compare --replay PATH|self [--scale N] {suites:?}");
+    let mut arguments = Arguments::new(usage);
+    let program = Program(arguments.program("--replay"));
+    let scale = arguments.scale();
+    let chosen = arguments.names(&suites);
     let wanted = |suite: &&Suite| chosen.is_empty() || chosen.iter().any(|n| n == suite.name);
     let mut sound = true;
     for suite in SUITES.iter().filter(wanted) {
@@ -194,13 +175,5 @@ fn main() {
             sound &= run_unready(path);
         }
     }
-    println!(
-        "{}",
-        if sound {
-            "all agree"
-        } else {
-            "coverage not met"
-        }
-    );
-    exit(if sound { 0 } else { 1 });
+    end(sound)
 }

@@ -1,6 +1,7 @@
 //! Runs the marker program on traces and compares the bytes it writes with this implementation's.
 
 use reference::both::Both;
+use reference::command_line::{end, keep, Arguments};
 use reference::coverage::Coverage;
 use reference::hand_in::marker_line;
 use reference::program::{run, Feed, Output};
@@ -113,30 +114,21 @@ impl Marker {
 
 /// Reports a difference, keeps the input and ends the program.
 fn fail(input: &[u8], feed: Feed, wanted: &str, written: &str) -> ! {
-    let kept = std::env::temp_dir().join("marker-difference.bin");
-    std::fs::write(&kept, input).expect("the difference can be written");
     println!("FAILED on {} bytes, handed over as {feed:?}", input.len());
     println!("  reference: {wanted:?}");
     println!("  marker:    {written}");
-    println!("  input: {}", kept.display());
+    keep("input", "marker-difference.bin", input);
     exit(1)
 }
 
 fn main() {
-    let mut path = None;
-    let mut scale = 1;
-    let mut arguments = std::env::args().skip(1);
-    while let Some(argument) = arguments.next() {
-        match argument.as_str() {
-            "--marker" => path = arguments.next(),
-            "--scale" => scale = arguments.next().and_then(|n| n.parse().ok()).expect(USAGE),
-            _ => panic!("{USAGE}"),
-        }
-    }
-    let path = path.expect(USAGE);
+    let mut arguments = Arguments::new(USAGE.to_string());
+    let program = arguments.program("--marker");
+    let scale = arguments.scale();
+    arguments.names(&[]);
     let file = format!("marker-input-{}.bin", std::process::id());
     let mut marker = Marker {
-        program: (path != "self").then(|| PathBuf::from(path)),
+        program,
         file: std::env::temp_dir().join(file),
         random: Random::new(SEED + 1),
         inputs: 0,
@@ -158,14 +150,5 @@ fn main() {
         marker.inputs,
         start.elapsed().as_secs_f64()
     );
-    let sound = marker.coverage.report(&promised);
-    println!(
-        "{}",
-        if sound {
-            "all agree"
-        } else {
-            "coverage not met"
-        }
-    );
-    exit(if sound { 0 } else { 1 });
+    end(marker.coverage.report(&promised))
 }

@@ -1,14 +1,12 @@
 //! The pin BA2, where its meaning hangs on the wiring and where it does not: short traces whose verdicts
 //! the papers give.
 
+use super::by_hand::{hand_on, met, Judged};
 use super::trace::Trace;
-use crate::both::Both;
 use crate::coverage::Coverage;
-use crate::judge::{judge, Verdict};
 use crate::pair::Kind;
 use crate::random::Random;
 use crate::sheet::Sheet;
-use crate::wiring;
 use crate::word::{a, BA2};
 
 /// The cases by name.
@@ -29,15 +27,6 @@ fn breaches(bl: u32, wiring: u32) -> [Option<u32>; 7] {
     [Some(4), Some(4), None, None, reserved, None, one_bank]
 }
 
-/// The name of a case with its breach and the wiring.
-fn met(name: &str, breach: Option<u32>, wiring: u32) -> String {
-    let verdict = match breach {
-        Some(number) => format!("breach {number}"),
-        None => "accepted".to_string(),
-    };
-    format!("{name}: {verdict}, {}", wiring::name(wiring))
-}
-
 /// What the cases on a sheet of this BL and wiring must meet.
 pub fn promised(bl: u32, wiring: u32) -> Vec<String> {
     let cases = NAMES.into_iter().zip(breaches(bl, wiring));
@@ -45,12 +34,7 @@ pub fn promised(bl: u32, wiring: u32) -> Vec<String> {
 }
 
 /// All cases on a sheet whose RBD is below RC, each handed to `judged`.
-pub fn each(
-    random: &Random,
-    sheet: &Sheet,
-    coverage: &mut Coverage,
-    judged: &mut dyn FnMut(&mut Coverage, &[u32]),
-) {
+pub fn each(random: &Random, sheet: &Sheet, coverage: &mut Coverage, judged: &mut Judged) {
     let traces = [
         closing(random, sheet, Kind::Regular, BA2, 0),
         closing(random, sheet, Kind::Extended, BA2, 0),
@@ -62,14 +46,7 @@ pub fn each(
     ];
     let breaches = breaches(sheet.bl, sheet.wiring);
     for ((name, breach), words) in NAMES.into_iter().zip(breaches).zip(traces) {
-        let clock = words.len() as u32 - 1;
-        let verdict = match breach {
-            Some(number) => Verdict::Breach { clock, number },
-            None => Verdict::Accepted,
-        };
-        assert_eq!(judge::<Both>(sheet, &words), verdict, "{name} on {sheet:?}");
-        coverage.meet(&met(name, breach, sheet.wiring));
-        judged(coverage, &words);
+        hand_on(sheet, (name, breach, &words), coverage, judged);
     }
 }
 

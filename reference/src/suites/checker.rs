@@ -1,6 +1,6 @@
 //! The examiner, step by step, whole and as a walk, and the counts: codes 2, 3, 8 and 10.
 
-use super::{ba2, long, names, near, pool, power_down, refusals, sheets, tally};
+use super::{breaches, by_hand, long, names, near, pool, refusals, runs, sheets, tally};
 use crate::coverage::Coverage;
 use crate::judge::{check, Verdict};
 use crate::past::Past;
@@ -8,6 +8,7 @@ use crate::random::Random;
 use crate::script::{Call, Packer};
 use crate::sheet::Sheet;
 use crate::summary::Summary;
+use crate::wiring::WIRINGS;
 use crate::word::{DESL, PD};
 
 /// The longest trace whose calls go into one script, which has its words four times, and its steps.
@@ -16,6 +17,7 @@ const IN_ONE_SCRIPT: usize = 3_000;
 /// What this suite must meet.
 pub fn promised() -> Vec<String> {
     let mut promised = [
+        breaches(&[2, 3, 10]),
         refusals(2, "refused"),
         refusals(3, "refused"),
         refusals(10, "refused"),
@@ -25,19 +27,11 @@ pub fn promised() -> Vec<String> {
         names(10, &["end", "refused 23"]),
     ]
     .concat();
-    for number in 1..=13 {
-        let breach = format!("breach {number}");
-        for code in [2, 3, 10] {
-            promised.extend(names(code, &[&breach]));
-        }
-    }
     promised.push("walk over an unfinished pair".to_string());
     promised.extend(near::promised());
     promised.extend(tally::promised());
-    for sheet in pool::parts() {
-        promised.extend(ba2::promised(sheet.bl, sheet.wiring));
-        promised.extend(power_down::promised(sheet.wiring));
-    }
+    promised.extend(pool::parts().iter().flat_map(by_hand::promised));
+    promised.extend(WIRINGS.map(runs::promised).concat());
     promised
 }
 
@@ -49,8 +43,12 @@ pub fn cases(seed: u64, scale: u32, packer: &mut Packer, coverage: &mut Coverage
         let mut judged = |coverage: &mut Coverage, words: &[u32]| {
             judged(&random, packer, coverage, &sheet, words)
         };
-        ba2::each(&random, &sheet, coverage, &mut judged);
-        power_down::each(&random, &sheet, coverage, &mut judged);
+        by_hand::each(&random, &sheet, coverage, &mut judged);
+    }
+    for sheet in runs::sheets(&random) {
+        runs::each(&random, &sheet, coverage, &mut |coverage, words| {
+            judged(&random, packer, coverage, &sheet, words)
+        });
     }
     for round in 0..scale {
         near::round(&random, round, coverage, &mut |coverage, sheet, words| {

@@ -1,10 +1,11 @@
 //! Inputs for the marker program: every short length, those around the longest, and traces on
 //! sheet E near the edges of the rules.
 
-use super::{ba2, load, long, near, power_down, sleep};
+use super::{by_hand, load, long, near, runs, sleep};
 use crate::both::Both;
 use crate::coverage::Coverage;
 use crate::hand_in::{marker_line, LONGEST_MARKED};
+use crate::judge::RULES;
 use crate::random::Random;
 use crate::script::bytes;
 use crate::sheet::SHEET_E;
@@ -15,7 +16,7 @@ const NEVER_ON_E: [&str; 2] = ["8 RBD", "8 WRD"];
 
 /// What the inputs must meet.
 pub fn promised() -> Vec<String> {
-    let mut promised: Vec<String> = (1..=13).map(|n| format!("breach {n}")).collect();
+    let mut promised: Vec<String> = RULES.map(|n| format!("breach {n}")).collect();
     let others = [
         "accepted",
         "accepted, as long as allowed",
@@ -37,8 +38,8 @@ pub fn promised() -> Vec<String> {
     );
     promised.extend(near::promised_refresh_edges());
     promised.extend(sleep::promised());
-    promised.extend(ba2::promised(SHEET_E.bl, SHEET_E.wiring));
-    promised.extend(power_down::promised(SHEET_E.wiring));
+    promised.extend(by_hand::promised(&SHEET_E));
+    promised.extend(runs::promised(SHEET_E.wiring));
     promised
 }
 
@@ -51,8 +52,8 @@ pub fn inputs(seed: u64, scale: u32, coverage: &mut Coverage, send: &mut dyn FnM
         near::count_broken(coverage, &SHEET_E, words);
         send(&bytes(words))
     };
-    ba2::each(&random, &SHEET_E, coverage, &mut judged);
-    power_down::each(&random, &SHEET_E, coverage, &mut judged);
+    by_hand::each(&random, &SHEET_E, coverage, &mut judged);
+    runs::each(&random, &SHEET_E, coverage, &mut judged);
     traces(&random, scale, coverage, send);
 }
 

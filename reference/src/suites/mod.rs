@@ -1,6 +1,7 @@
 //! The suites: generators of scripts, each with the answers that it promises to meet.
 
 pub mod ba2;
+pub mod by_hand;
 pub mod checker;
 pub mod controller;
 mod damage;
@@ -16,6 +17,8 @@ pub mod pool;
 pub mod power_down;
 pub mod ranges;
 pub mod relaxed;
+pub mod rows;
+pub mod runs;
 pub mod scripts;
 pub mod sheets;
 pub mod sleep;
@@ -26,6 +29,7 @@ pub mod time;
 pub mod trace;
 
 use crate::coverage::Coverage;
+use crate::judge::RULES;
 use crate::promises;
 use crate::script::{Call, Packer};
 use crate::wiring::{self, WIRINGS};
@@ -47,7 +51,14 @@ pub struct Suite {
 }
 
 /// All suites, in the order in which they run.
-pub const SUITES: [Suite; 8] = [
+pub const SUITES: [Suite; 9] = [
+    Suite {
+        name: "rows",
+        seed: 0x5EED_000D,
+        cases: rows::cases,
+        promised: rows::promised,
+        promise: Some(rows::check),
+    },
     Suite {
         name: "pairs",
         seed: 0x5EED_0001,
@@ -116,6 +127,13 @@ pub fn by_wiring(name: &str) -> Vec<String> {
 fn names(code: u32, answers: &[&str]) -> Vec<String> {
     let name = |answer: &&str| by_wiring(&format!("{code} {answer}"));
     answers.iter().flat_map(name).collect()
+}
+
+/// Names of every breach with each wiring, for some codes.
+fn breaches(codes: &[u32]) -> Vec<String> {
+    let all: Vec<String> = RULES.map(|number| format!("breach {number}")).collect();
+    let all: Vec<&str> = all.iter().map(String::as_str).collect();
+    codes.iter().flat_map(|&code| names(code, &all)).collect()
 }
 
 /// Names of the sheet's own refusals, of which 34 is for a wiring that there is not.

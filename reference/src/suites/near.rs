@@ -143,7 +143,7 @@ pub fn near_words(random: &Random, coverage: &mut Coverage, sheet: Sheet, way: u
     near_words_on(random, coverage, [sheet; 2], way)
 }
 
-/// The same with two sheets of one wiring: behind its start-up it keeps close to the rules on the second.
+/// A trace near the rules of two sheets of one wiring: behind its start-up it keeps close to those of the second.
 pub fn near_words_on(
     random: &Random,
     coverage: &mut Coverage,

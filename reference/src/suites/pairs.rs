@@ -9,13 +9,6 @@ use crate::sheet::{Sheet, SHEET_E, SHEET_E_OF_FOUR};
 use crate::word::{CS, FN, PD};
 
 const MAX: u32 = u32::MAX;
-const KINDS: [Kind; 5] = [
-    Kind::Read,
-    Kind::Write,
-    Kind::Regular,
-    Kind::Extended,
-    Kind::Refresh,
-];
 
 /// What this suite must meet.
 pub fn promised() -> Vec<String> {
@@ -85,7 +78,7 @@ fn written(random: &Random, packer: &mut Packer, coverage: &mut Coverage, sheet:
     chunked(packer, &calls);
 }
 
-/// The same of modes and of a refresh.
+/// Modes and refreshes written, in range and out of it.
 fn written_others(sheet: &Sheet, calls: &mut Vec<Call>) {
     for value in (0..70).chain([127, 128, 256, 1 << 31, MAX]) {
         write_and_read(
@@ -135,7 +128,7 @@ fn chunked(packer: &mut Packer, calls: &[Call]) {
 /// Pairs with their ignored pins at random, each of the 64 bits turned over in turn.
 fn damaged(random: &Random, packer: &mut Packer, sheet: &Sheet, scale: u32) {
     let mut calls = vec![pool::config(random, sheet)];
-    for kind in KINDS {
+    for kind in Kind::ALL {
         for _ in 0..10 * scale {
             let bank = random.below(8);
             let operation = pool::operation(random, sheet, kind, bank);

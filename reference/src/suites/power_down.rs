@@ -1,14 +1,12 @@
 //! Power down on both sides of each of its edges: short traces whose verdicts the papers give.
 
+use super::by_hand::{hand_on, met, Judged};
 use super::sleep::{desl_word, low_word, BELOW_PD};
 use super::trace::Trace;
-use crate::both::Both;
 use crate::coverage::Coverage;
-use crate::judge::{judge, Verdict};
 use crate::pair::Kind;
 use crate::random::Random;
 use crate::sheet::Sheet;
-use crate::wiring;
 use crate::word::{CS, FN, PD};
 
 /// CL, BL, and the least clocks from the first word of a read and of a write to PD low: RC, or one more
@@ -58,15 +56,6 @@ const OVERDUE: [(&str, Option<u32>); 5] = [
     ("CS low in a wake-up word past the limit of rule 3", Some(3)),
 ];
 
-/// The name of a case with its breach and the wiring.
-fn met(name: &str, breach: Option<u32>, wiring: u32) -> String {
-    let verdict = match breach {
-        Some(number) => format!("breach {number}"),
-        None => "accepted".to_string(),
-    };
-    format!("{name}: {verdict}, {}", wiring::name(wiring))
-}
-
 /// What the cases on a sheet of this wiring must meet.
 pub fn promised(wiring: u32) -> Vec<String> {
     let spaced = SPACED.map(|(name, _)| [(name, None), (name, Some(2))]);
@@ -76,22 +65,10 @@ pub fn promised(wiring: u32) -> Vec<String> {
 }
 
 /// All cases on a sheet, each handed to `judged`.
-pub fn each(
-    random: &Random,
-    sheet: &Sheet,
-    coverage: &mut Coverage,
-    judged: &mut dyn FnMut(&mut Coverage, &[u32]),
-) {
+pub fn each(random: &Random, sheet: &Sheet, coverage: &mut Coverage, judged: &mut Judged) {
     let cases = [spaced(random, sheet), bare(random), overdue(random, sheet)];
     for (name, breach, words) in cases.concat() {
-        let clock = words.len() as u32 - 1;
-        let verdict = match breach {
-            Some(number) => Verdict::Breach { clock, number },
-            None => Verdict::Accepted,
-        };
-        assert_eq!(judge::<Both>(sheet, &words), verdict, "{name} on {sheet:?}");
-        coverage.meet(&met(name, breach, sheet.wiring));
-        judged(coverage, &words);
+        hand_on(sheet, (name, breach, &words), coverage, judged);
     }
 }
 

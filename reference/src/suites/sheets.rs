@@ -24,6 +24,16 @@ const UNFIT: [(usize, u32); 9] = [
     (5, 1),
 ];
 
+/// A field of sheet E with an unfit value for each refusal, in the order in which they are tried, and its
+/// number.
+pub const SPOILED: [(usize, u32, u32); 5] = [
+    (2, 3, 20),
+    (10, 5, 34),
+    (4, 4499, 21),
+    (8, 16, 22),
+    (9, 17, 33),
+];
+
 /// The sheet's own refusals, in the order in which they are tried.
 pub const REFUSALS: [u32; 5] = [20, 34, 21, 22, 33];
 

@@ -1,80 +1,75 @@
-//! Times the archive's check beside a plain one-pass checker in Rust, in the same run, on four
-//! valid traces. A measurement, not a test.
+//! Times the archive's check beside plain one-pass checkers in C and in Rust and beside adding up the words,
+//! in the same run, on four valid traces and in several layouts of the code. A measurement, not a test.
 
-use reference::both::Both;
-use reference::coverage::Coverage;
-use reference::hand_in::site_number;
 use reference::random::Random;
 use reference::script::bytes;
-use reference::sheet::{Sheet, SHEET_E};
-use reference::suites::{load, near, pool, power_down};
-use site::call::Form;
-use site::plain;
+use reference::sheet::SHEET_E;
+use reference::suites::load;
+use site::clock::thread_seconds;
+use site::layouts::{Call, LAYOUTS};
+use site::sound;
 use std::hint::black_box;
-use std::time::Instant;
 
 const WORDS: usize = 8_000_000;
 const ROUNDS: u32 = 7;
 const SEED: u64 = 0x5EED_0007;
+const HEAD: &str =
+    "trace                        fcram       C    Rust  adding   fcram/C  fcram/Rust  fcram/adding";
 
-/// The archive's check on a sheet of eight banks.
-fn fcram_check(sheet: &Sheet, trace: &[u8]) -> u32 {
-    Form::OfEight.check(sheet, trace)
-}
-
-/// A checker's answer and its million words a second.
-fn timed(check: fn(&Sheet, &[u8]) -> u32, trace: &[u8]) -> (u32, f64) {
-    let start = Instant::now();
-    let answer = check(black_box(&SHEET_E), black_box(trace));
-    let seconds = start.elapsed().as_secs_f64();
+/// The answer of a call and its million words a second.
+fn timed(call: Call, trace: &[u8]) -> (u32, f64) {
+    let start = thread_seconds();
+    let answer = call(black_box(&SHEET_E), black_box(trace));
+    let seconds = thread_seconds() - start;
     (answer, trace.len() as f64 / 4.0 / seconds / 1e6)
 }
 
-/// Both checkers in turn on a valid trace; the best of all rounds counts.
-fn compare(name: &str, words: Vec<u32>) {
-    let trace = bytes(&words);
-    let (mut fcram, mut rust) = (0.0_f64, 0.0_f64);
+/// The best speed of each call in each layout, all of them in turn on a valid trace.
+fn bests(words: &[u32]) -> Vec<[f64; 4]> {
+    let (trace, sum) = (bytes(words), sound::sum(words));
+    let mut bests = vec![[0.0_f64; 4]; LAYOUTS.len()];
     for _ in 0..ROUNDS {
-        for (best, check) in [
-            (&mut fcram, fcram_check as fn(&Sheet, &[u8]) -> u32),
-            (&mut rust, plain::check),
-        ] {
-            let (answer, speed) = timed(check, &trace);
-            assert_eq!(answer, 0, "a valid trace");
-            *best = best.max(speed);
+        for (layout, bests) in LAYOUTS.iter().zip(&mut bests) {
+            let checks = [layout.fcram, layout.c, layout.rust].map(|check| (check, 0));
+            let calls = checks.into_iter().chain([(layout.sum, sum)]);
+            for ((call, wanted), best) in calls.zip(bests) {
+                let (answer, speed) = timed(call, &trace);
+                assert_eq!(answer, wanted, "a valid trace");
+                *best = best.max(speed);
+            }
         }
     }
-    let ratio = fcram / rust;
-    println!("{name:28} {fcram:8.1} {rust:8.1} {ratio:12.3}");
+    bests
 }
 
-/// The plain checker answers as the reference does, or its speed would say nothing.
-fn plain_is_sound(random: &Random) {
-    let mut coverage = Coverage::default();
-    for way in 0..6_000 {
-        let sheet = pool::sheet(random);
-        let words = near::near_words(random, &mut coverage, sheet, way);
-        same_answer(&sheet, &words);
-        same_answer(&sheet, &near::random_words(random));
-    }
-    for sheet in pool::parts() {
-        power_down::each(random, &sheet, &mut coverage, &mut |_, words| {
-            same_answer(&sheet, words)
-        });
-    }
+/// The one in the middle, or between the two in the middle.
+fn median(mut numbers: Vec<f64>) -> f64 {
+    numbers.sort_by(f64::total_cmp);
+    let (low, high) = ((numbers.len() - 1) / 2, numbers.len() / 2);
+    (numbers[low] + numbers[high]) / 2.0
 }
 
-fn same_answer(sheet: &Sheet, words: &[u32]) {
-    let trace = bytes(words);
-    let wanted = site_number::<Both>(sheet, &trace);
-    assert_eq!(plain::check(sheet, &trace), wanted, "{sheet:?}");
+/// Times all on a trace, and prints the medians of the speeds and of the ratios in each layout.
+fn compare(name: &str, words: Vec<u32>) {
+    let bests = bests(&words);
+    let speed = |call: usize| median(bests.iter().map(|best| best[call]).collect());
+    let ratio = |call: usize| median(bests.iter().map(|best| best[0] / best[call]).collect());
+    let [fcram, c, rust, sum] = [0, 1, 2, 3].map(speed);
+    let [to_c, to_rust, to_sum] = [1, 2, 3].map(ratio);
+    println!(
+        "{name:26}{fcram:8.0}{c:8.0}{rust:8.0}{sum:8.0}{to_c:10.2}{to_rust:12.2}{to_sum:14.2}"
+    );
 }
 
 fn main() {
-    plain_is_sound(&Random::new(SEED + 1));
+    sound::try_all(&Random::new(SEED + 1));
     let random = Random::new(SEED);
-    println!("{WORDS} words each, sheet E, seed {SEED:#x}, best of {ROUNDS} rounds in turn");
-    println!("million words a second          fcram     Rust   fcram/Rust");
+    println!("{WORDS} words each, sheet E, seed {SEED:#x}");
+    let layouts = LAYOUTS.len();
+    println!(
+        "million words a second, medians over {layouts} layouts of the best of {ROUNDS} rounds"
+    );
+    println!("{HEAD}");
     compare("DESL and needed refreshes", load::idle(&SHEET_E, WORDS));
     compare("dense accesses", load::busy(&random, &SHEET_E, WORDS));
     compare("mixed at random", load::mixed(&random, &SHEET_E, WORDS));

@@ -7,9 +7,10 @@ mod traces;
 
 use crate::call::Form;
 use crate::run::Run;
+use reference::judge::RULES;
 use reference::suites::sheets::{promised_order, REFUSALS};
-use reference::suites::{ba2, near, pool, power_down};
-use reference::wiring;
+use reference::suites::{by_hand, near, pool, runs};
+use reference::wiring::{self, WIRINGS};
 
 /// A section: its name and its cases.
 pub type Section = (&'static str, fn(&mut Run, u32));
@@ -25,7 +26,7 @@ pub const SECTIONS: [Section; 5] = [
 
 /// Every answer of each of the two calls with each wiring that it can be given.
 fn promised_answers() -> Vec<String> {
-    let mut answers: Vec<String> = (1..=13).map(|n| format!("breach {n}")).collect();
+    let mut answers: Vec<String> = RULES.map(|n| format!("breach {n}")).collect();
     answers.push("accepted".to_string());
     answers.extend([20, 21, 22, 24, 29, 33].map(|n| format!("refused {n}")));
     let mut promised = Vec::new();
@@ -66,10 +67,8 @@ pub fn promised() -> Vec<String> {
     ];
     promised.extend(others.map(str::to_string));
     promised.extend(near::promised());
-    for sheet in pool::parts() {
-        promised.extend(ba2::promised(sheet.bl, sheet.wiring));
-        promised.extend(power_down::promised(sheet.wiring));
-    }
+    promised.extend(pool::parts().iter().flat_map(by_hand::promised));
+    promised.extend(WIRINGS.map(runs::promised).concat());
     promised.extend(long::promised());
     promised
 }

@@ -8,7 +8,7 @@ use reference::hand_in::site_number;
 use reference::random::Random;
 use reference::script::bytes;
 use reference::sheet::Sheet;
-use reference::suites::{ba2, load, long, near, pool, power_down};
+use reference::suites::{by_hand, load, long, near, pool, runs};
 use std::thread;
 
 pub fn cases(run: &mut Run, scale: u32) {
@@ -29,8 +29,14 @@ pub fn cases(run: &mut Run, scale: u32) {
     for sheet in pool::parts() {
         let mut coverage = std::mem::take(&mut run.coverage);
         let mut judged = |_: &mut Coverage, words: &[u32]| judged(run, &random, &sheet, words);
-        ba2::each(&random, &sheet, &mut coverage, &mut judged);
-        power_down::each(&random, &sheet, &mut coverage, &mut judged);
+        by_hand::each(&random, &sheet, &mut coverage, &mut judged);
+        run.coverage.add(coverage);
+    }
+    for sheet in runs::sheets(&random) {
+        let mut coverage = std::mem::take(&mut run.coverage);
+        runs::each(&random, &sheet, &mut coverage, &mut |_, words| {
+            judged(run, &random, &sheet, words)
+        });
         run.coverage.add(coverage);
     }
     for _ in 0..4_000 * scale {

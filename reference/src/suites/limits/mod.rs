@@ -10,7 +10,7 @@ pub mod refused;
 
 use super::long::{dense_words, quick_sheet};
 use super::near::{near_words, near_words_on, random_words};
-use super::{names, pool};
+use super::{breaches, names, pool};
 use crate::coverage::Coverage;
 use crate::limits::Limits;
 use crate::random::Random;
@@ -27,18 +27,15 @@ const LONG: usize = 6_000;
 
 /// What this suite must meet.
 pub fn promised() -> Vec<String> {
-    let mut promised = [
+    [
         names(15, &["always"]),
+        breaches(&[15]),
         promised_directed(),
         meet::promised(),
         refused::promised(),
         around::promised(),
     ]
-    .concat();
-    for number in 1..=13 {
-        promised.extend(names(15, &[&format!("breach {number}")]));
-    }
-    promised
+    .concat()
 }
 
 /// All cases of the suite.

@@ -4,7 +4,7 @@ use super::edges::EDGES;
 use super::order;
 use super::two_sheets::{differing, COUNTS};
 use crate::coverage::Coverage;
-use crate::judge::first_broken;
+use crate::judge::{first_broken, RULES};
 use crate::sheet::Sheet;
 use crate::suites::trace::part_name;
 use crate::suites::{by_wiring, pool};
@@ -34,7 +34,7 @@ pub fn promised() -> Vec<String> {
         promised.push(on_both(&difference(&COUNTS, same)));
     }
     promised.extend(LATER.map(in_breach));
-    promised.extend((1..=13).map(|number| in_breach(&at_one_clock([number; 2]))));
+    promised.extend(RULES.map(|number| in_breach(&at_one_clock([number; 2]))));
     promised.extend(order::NUMBERS.map(|numbers| in_breach(&at_one_clock(numbers))));
     promised
 }

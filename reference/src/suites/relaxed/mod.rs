@@ -11,7 +11,7 @@ pub(super) mod two_sheets;
 use super::checker::steps;
 use super::long::dense_words;
 use super::near::{near_words_on, random_words};
-use super::{names, pool};
+use super::{breaches, pool};
 use crate::coverage::Coverage;
 use crate::random::Random;
 use crate::script::{Call, Packer};
@@ -30,20 +30,14 @@ const LONG: usize = 4_000;
 
 /// What this suite must meet.
 pub fn promised() -> Vec<String> {
-    let mut promised = [
+    [
+        breaches(&[2, 3, 10]),
         conditions::promised(),
         edges::promised(),
         meet::promised(),
         sentence::promised(),
     ]
-    .concat();
-    for number in 1..=13 {
-        let breach = format!("breach {number}");
-        for code in [2, 3, 10] {
-            promised.extend(names(code, &[&breach]));
-        }
-    }
-    promised
+    .concat()
 }
 
 /// All cases of the suite.

@@ -1,8 +1,7 @@
 //! Cases for the steps and walks of a checker.
 
 use super::forge::{
-    around, bare_checker, damage, delay_events, put_events, put_refs, rewire, some_clock,
-    spoil_sheet, CLOCKS,
+    alter, damage, delay_events, each_event, put_events, put_refs, some_clock, spoil_sheet, CLOCKS,
 };
 use super::lows;
 use super::phases::{some_first, ASLEEP, PAIR_OPEN, PHASES, STANDBY, WAKE_UP_DUE};
@@ -15,10 +14,9 @@ use crate::phase::Phase;
 use crate::random::Random;
 use crate::script::{Call, Packer};
 use crate::sheet::Sheet;
-use crate::state::{self, CheckerNumbers, BREACH, CLOCK, EVENT};
+use crate::state::{self, bare_checker, CheckerNumbers, BREACH, CLOCK};
 use crate::suites::sleep::{desl_word, low_word};
 use crate::suites::{checker, near, pool, trace};
-use crate::summary::EVENTS;
 use crate::word::{CS, DESL, PD};
 
 /// The longest trace that a walk is made over; eight times D, and some clocks, are in it.
@@ -30,14 +28,9 @@ pub fn edges(random: &Random, packer: &mut Packer, coverage: &mut Coverage) {
     for clock in CLOCKS {
         for phase in [STANDBY, PAIR_OPEN, PAIR_OPEN, ASLEEP, WAKE_UP_DUE] {
             let bare = || bare_checker(&pool::sheet(random), clock, some_first(random, phase));
-            beside(random, packer, coverage, bare());
-            for event in EVENT..EVENT + EVENTS {
-                for value in around(clock) {
-                    let mut numbers = bare();
-                    numbers[event] = value;
-                    beside(random, packer, coverage, numbers);
-                }
-            }
+            each_event(clock, bare, |numbers| {
+                beside(random, packer, coverage, numbers)
+            });
         }
     }
 }
@@ -133,11 +126,7 @@ pub fn near_real(random: &Random, packer: &mut Packer, coverage: &mut Coverage) 
     before.extend(checker::steps(&words));
     before.push(Call::ShowChecker);
     let mut numbers = state::checker_numbers(&checker);
-    match random.below(8) {
-        0 => {}
-        1 => rewire(coverage, "checker", &mut numbers),
-        _ => damage(random, &mut numbers),
-    }
+    alter(random, coverage, "checker", &mut numbers);
     trial(random, packer, coverage, before, &numbers);
 }
 

@@ -1,9 +1,10 @@
 //! Cases for the offers and ticks of a controller.
 
 use super::forge::{
-    around, bare_controller, damage, delay_events, put_events, put_modes, put_place, put_refs,
-    rewire, some_clock, some_request, spoil_sheet, CLOCKS,
+    alter, bare_controller, damage, delay_events, each_event, put_events, put_modes, put_place,
+    put_refs, some_clock, some_request, spoil_sheet, CLOCKS,
 };
+use super::places::{open_pairs, some_open_pair};
 use super::run::{ControllerRun, Form};
 use crate::both::Both;
 use crate::controller::Controller;
@@ -12,9 +13,8 @@ use crate::pair::{column_pins, Request};
 use crate::random::Random;
 use crate::script::{Call, Packer};
 use crate::sheet::Sheet;
-use crate::state::{self, ControllerNumbers, EVENT, OPEN};
+use crate::state::{self, ControllerNumbers};
 use crate::suites::{by_wiring, pool};
-use crate::summary::EVENTS;
 use crate::wiring::{greatest_bank, greatest_row};
 
 /// Counts on either side of the capacity.
@@ -41,14 +41,9 @@ pub fn edges(random: &Random, packer: &mut Packer, coverage: &mut Coverage) {
         for opened in 0..5 {
             let count = random.pick(&[1, 3, 16]);
             let bare = || bare_controller(random, &pool::sheet(random), (clock, opened, count));
-            beside(random, packer, coverage, bare());
-            for event in EVENT..EVENT + EVENTS {
-                for value in around(clock) {
-                    let mut numbers = bare();
-                    numbers[event] = value;
-                    beside(random, packer, coverage, numbers);
-                }
-            }
+            each_event(clock, bare, |numbers| {
+                beside(random, packer, coverage, numbers)
+            });
         }
     }
     let parts = pool::parts().into_iter().filter(|s| s.grade == 37);
@@ -57,10 +52,11 @@ pub fn edges(random: &Random, packer: &mut Packer, coverage: &mut Coverage) {
     }
 }
 
-/// Every count with every kind of open pair, and each field of some waiting places out of its range.
+/// Every count with every kind of open pair, a request's at every place about its edges, and each field
+/// of some waiting places out of its range.
 fn queues(random: &Random, packer: &mut Packer, coverage: &mut Coverage, sheet: &Sheet) {
     for count in COUNTS {
-        for opened in 0..5 {
+        for opened in open_pairs(count) {
             let clock = some_clock(random).max(1);
             let bare = bare_controller(random, sheet, (clock, opened, count));
             beside(random, packer, coverage, bare);
@@ -68,7 +64,7 @@ fn queues(random: &Random, packer: &mut Packer, coverage: &mut Coverage, sheet: 
         for place in [0, 1, 7, 14, 15] {
             for field in 1..6 {
                 let clock = some_clock(random).max(1);
-                let opened = random.pick(&[0, 0, 1, 2, 3, 4]);
+                let opened = some_open_pair(random, count);
                 let mut numbers = bare_controller(random, sheet, (clock, opened, count));
                 put_place(&mut numbers, place, unfit_request(random, sheet, field));
                 beside(random, packer, coverage, numbers);
@@ -137,7 +133,7 @@ pub fn refreshes(random: &Random, packer: &mut Packer, coverage: &mut Coverage) 
 pub fn forged(random: &Random, packer: &mut Packer, coverage: &mut Coverage) {
     let sheet = pool::sheet(random);
     let count = random.pick(&[0, 1, 1, 2, random.below(17), 16]);
-    let opened = random.pick(&[0, 0, 0, 1, 2, 3, 4]);
+    let opened = some_open_pair(random, count);
     let clock = some_clock(random);
     let mut numbers = bare_controller(random, &sheet, (clock, opened, count));
     put_events(random, &sheet, &mut numbers);
@@ -149,18 +145,10 @@ pub fn forged(random: &Random, packer: &mut Packer, coverage: &mut Coverage) {
             let field = random.between(1, 5) as usize;
             put_place(&mut numbers, place, unfit_request(random, &sheet, field));
         }
-        3 => damage_but_open(random, &mut numbers),
+        3 => damage(random, &mut numbers),
         _ => {}
     }
     trial(random, packer, coverage, vec![], &numbers);
-}
-
-/// Changes one number; that of the open pair stays one that is listed.
-fn damage_but_open(random: &Random, numbers: &mut ControllerNumbers) {
-    damage(random, numbers);
-    if numbers[OPEN] > 4 {
-        numbers[OPEN] = random.below(5);
-    }
 }
 
 /// A state that offers and ticks made, then with one number changed, at times the wiring.
@@ -181,11 +169,7 @@ pub fn near_real(random: &Random, packer: &mut Packer, coverage: &mut Coverage) 
     }
     before.push(Call::ShowController);
     let mut numbers = state::controller_numbers(&controller);
-    match random.below(8) {
-        0 => {}
-        1 => rewire(coverage, "controller", &mut numbers),
-        _ => damage_but_open(random, &mut numbers),
-    }
+    alter(random, coverage, "controller", &mut numbers);
     trial(random, packer, coverage, before, &numbers);
 }
 

@@ -5,8 +5,8 @@ use crate::judge::LONGEST;
 use crate::pair::{column_pins, Request};
 use crate::random::Random;
 use crate::sheet::{Sheet, NUMBERS};
-use crate::state::{CheckerNumbers, ControllerNumbers, CHECKER, CONTROLLER};
-use crate::state::{CLOCK, COUNT, EVENT, OPEN, PLACE};
+use crate::state::{bare_checker, ControllerNumbers, CONTROLLER};
+use crate::state::{BREACH, CLOCK, COUNT, EVENT, PLACE};
 use crate::suites::pool;
 use crate::summary::EVENTS;
 use crate::wiring::{self, greatest_bank, greatest_row};
@@ -22,7 +22,7 @@ const WIRING: usize = NUMBERS - 1;
 pub const CLOCKS: [u32; 8] = [0, 1, 2, 40, LONGEST - 1, LONGEST, LONGEST + 1, u32::MAX];
 
 /// Clocks of an event around that of its state, and the greatest.
-pub fn around(clock: u32) -> [u32; 4] {
+fn around(clock: u32) -> [u32; 4] {
     [
         clock.wrapping_sub(1),
         clock,
@@ -31,13 +31,20 @@ pub fn around(clock: u32) -> [u32; 4] {
     ]
 }
 
-/// A checker that remembers nothing.
-pub fn bare_checker(sheet: &Sheet, clock: u32, first: u32) -> CheckerNumbers {
-    let mut numbers = [0; CHECKER];
-    numbers[..NUMBERS].copy_from_slice(&sheet.numbers());
-    numbers[CLOCK] = clock;
-    numbers[OPEN] = first;
-    numbers
+/// A bare state at a clock, and then with each event at and around that clock.
+pub fn each_event<const N: usize>(
+    clock: u32,
+    bare: impl Fn() -> [u32; N],
+    mut each: impl FnMut([u32; N]),
+) {
+    each(bare());
+    for event in EVENT..EVENT + EVENTS {
+        for value in around(clock) {
+            let mut numbers = bare();
+            numbers[event] = value;
+            each(numbers);
+        }
+    }
 }
 
 /// A controller that remembers nothing, with requests waiting that fit and others behind them.
@@ -47,9 +54,7 @@ pub fn bare_controller(
     (clock, opened, count): (u32, u32, u32),
 ) -> ControllerNumbers {
     let mut numbers = [0; CONTROLLER];
-    numbers[..NUMBERS].copy_from_slice(&sheet.numbers());
-    numbers[CLOCK] = clock;
-    numbers[OPEN] = opened;
+    numbers[..BREACH].copy_from_slice(&bare_checker(sheet, clock, opened)[..BREACH]);
     numbers[COUNT] = count;
     let dirt = random.once_in(2);
     for place in 0..16 {
@@ -209,8 +214,17 @@ pub fn rewired_name(state: &str) -> String {
     format!("{state} of the other wiring put")
 }
 
+/// Leaves the numbers of a state that was reached, seldom, or puts the other wiring, or does damage.
+pub fn alter(random: &Random, coverage: &mut Coverage, state: &str, numbers: &mut [u32]) {
+    match random.below(8) {
+        0 => {}
+        1 => rewire(coverage, state, numbers),
+        _ => damage(random, numbers),
+    }
+}
+
 /// Puts the other wiring into a state's sheet, which is an accepted one.
-pub fn rewire(coverage: &mut Coverage, state: &str, numbers: &mut [u32]) {
+fn rewire(coverage: &mut Coverage, state: &str, numbers: &mut [u32]) {
     numbers[WIRING] = 12 - numbers[WIRING];
     let banks = wiring::name(numbers[WIRING]);
     coverage.meet(&format!("{}, {banks}", rewired_name(state)));

@@ -1,13 +1,12 @@
 //! States in which PD goes low: each ground of rule 2 by the events of the state, on either side of its
 //! edge, and the events that are no ground.
 
-use super::forge::bare_checker;
 use super::phases::{some_first, ASLEEP, STANDBY, WAKE_UP_DUE};
 use crate::coverage::Coverage;
 use crate::past::Past;
 use crate::random::Random;
 use crate::sheet::Sheet;
-use crate::state::{CheckerNumbers, EVENT};
+use crate::state::{bare_checker, CheckerNumbers, EVENT};
 use crate::suites::pool;
 use crate::summary::{Summary, NAMES};
 

@@ -8,15 +8,16 @@ mod limit;
 mod lows;
 mod meet;
 mod phases;
+mod places;
 mod run;
 
-use super::{by_wiring, names, pool, refusals, tally};
+use super::{breaches, by_wiring, names, pool, refusals, tally};
 use crate::coverage::Coverage;
 use crate::ground::{Ground, LATE_CLOCK, NO_REQUEST, OPEN_AT_0, TOO_MANY};
 use crate::ground::{ASLEEP_AT_0, WAKE_UP_AT_0, WAKE_UP_AT_1};
 use crate::pair::Request;
 use crate::random::Random;
-use crate::script::{bytes, Call, Packer};
+use crate::script::{bytes, script, Call, Packer};
 use crate::state::{CHECKER, CONTROLLER, OPEN};
 use crate::summary::NAMES;
 use crate::word::DESL;
@@ -35,12 +36,14 @@ pub fn promised() -> Vec<String> {
         promised.extend(lows::promised(call));
     }
     promised.push("walk: end ahead of 24".to_string());
-    for call in ["offer", "lent offer"] {
+    for call in ["offer", "lent offer", "tick", "lent tick"] {
         promised.extend(meet::promised_grounds(call, &controller_grounds()));
+        promised.extend(places::promised(call));
+    }
+    for call in ["offer", "lent offer"] {
         promised.extend(meet::promised_order(call, &["19", "26", "27"]));
     }
     for call in ["tick", "lent tick"] {
-        promised.extend(meet::promised_grounds(call, &controller_grounds()));
         promised.extend(meet::promised_order(call, &["19", "24"]));
         promised.extend(limit::promised_pairs(call));
     }
@@ -56,6 +59,7 @@ pub fn promised() -> Vec<String> {
 /// The answers that must be met, by the codes of the calls.
 fn answers() -> Vec<String> {
     let mut promised = [
+        breaches(&[2, 108]),
         names(2, &["pass", "refused 19", "refused 23", "refused 24"]),
         names(108, &["pass", "end", "refused 19", "refused 23"]),
         names(103, &["checker"]),
@@ -63,11 +67,6 @@ fn answers() -> Vec<String> {
         names(107, &["counts 0"]),
     ]
     .concat();
-    for number in 1..=13 {
-        let breach = format!("breach {number}");
-        promised.extend(names(2, &[&breach]));
-        promised.extend(names(108, &[&breach]));
-    }
     for code in [2, 4, 5, 11, 12, 108] {
         promised.extend(refusals(code, "refused"));
     }
@@ -147,13 +146,12 @@ fn cut_short(packer: &mut Packer) {
         Call::Advance(vec![DESL; 5]),
     ];
     for call in calls {
-        let mut script = Vec::new();
-        call.encode(&mut script);
+        let script = script(&[call]);
         for length in 1..=script.len() {
             packer.raw(&bytes(&[&[103, 104], &script[..length]].concat()));
         }
     }
-    for opened in 0..8 {
+    for opened in [0, 1, 2, 3, 4, 5, 20, u32::MAX] {
         let mut script = vec![102];
         script.extend([1; CONTROLLER]);
         script[1 + OPEN] = opened;

@@ -3,7 +3,7 @@
 
 use super::limit::{about_limit, NOT_OPENED, OPENED};
 use super::meet::{meet, meet_latest, of_state};
-use super::{lows, phases};
+use super::{lows, phases, places};
 use crate::both::Both;
 use crate::checker::{Checker, Step};
 use crate::controller::Controller;
@@ -28,6 +28,11 @@ fn ending(other: Call) -> [Call; 3] {
     [mode, read, other]
 }
 
+/// The calls of a run: a configuration of its own, other calls, and a state that is put and shown.
+fn begun(config: Call, before: Vec<Call>, put: Call, shown: &[Call]) -> Vec<Call> {
+    [&[config], &before[..], &[put], shown].concat()
+}
+
 /// A checker that was put, and its calls.
 pub struct CheckerRun<'a> {
     checker: Checker<Both>,
@@ -43,13 +48,10 @@ impl<'a> CheckerRun<'a> {
         before: Vec<Call>,
         numbers: &CheckerNumbers,
     ) -> CheckerRun<'a> {
-        let mut calls = vec![config];
-        calls.extend(before);
-        calls.push(Call::PutChecker(Box::new(*numbers)));
-        calls.push(Call::ShowChecker);
+        let put = Call::PutChecker(Box::new(*numbers));
         CheckerRun {
             checker: state::checker(numbers),
-            calls,
+            calls: begun(config, before, put, &[Call::ShowChecker]),
             coverage,
         }
     }
@@ -155,13 +157,11 @@ impl<'a> ControllerRun<'a> {
         before: Vec<Call>,
         numbers: &ControllerNumbers,
     ) -> ControllerRun<'a> {
-        let mut calls = vec![config];
-        calls.extend(before);
-        calls.push(Call::PutController(Box::new(*numbers)));
-        calls.extend([Call::ShowController, Call::Waiting]);
+        let put = Call::PutController(Box::new(*numbers));
+        let shown = [Call::ShowController, Call::Waiting];
         ControllerRun {
-            controller: state::controller(numbers).expect("a kind of open pair"),
-            calls,
+            controller: state::controller(numbers),
+            calls: begun(config, before, put, &shown),
             coverage,
         }
     }
@@ -171,6 +171,9 @@ impl<'a> ControllerRun<'a> {
     fn count(&mut self, call: &str, further: &[(bool, &str)]) -> bool {
         let sheet = self.controller.sheet;
         let grounds = self.controller.grounds();
+        if sheet.refusal().is_none() {
+            places::count(self.coverage, call, &self.controller, &grounds);
+        }
         let mut standing = of_state(&sheet, &grounds);
         if standing.is_empty() {
             meet_latest(self.coverage, call, &sheet, self.controller.past.summary());

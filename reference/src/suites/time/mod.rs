@@ -10,7 +10,7 @@ mod sentence;
 use super::{names, pool, refusals, sheets};
 use crate::coverage::Coverage;
 use crate::random::Random;
-use crate::script::{bytes, Call, Packer};
+use crate::script::{bytes, script, Call, Packer};
 use crate::sheet::Sheet;
 pub use counts::some_count;
 pub use sentence::check;
@@ -51,9 +51,7 @@ fn asked(random: &Random, sheet: &Sheet, counts: &[u32]) -> Vec<Call> {
 
 /// Scripts in which no configuration stands before the call, whole and cut short.
 fn at_the_start(packer: &mut Packer) {
-    let mut script = Vec::new();
-    let calls = counts::EDGES.map(Call::Time);
-    calls.iter().for_each(|call| call.encode(&mut script));
+    let script = script(&counts::EDGES.map(Call::Time));
     for length in 1..=script.len() {
         packer.raw(&bytes(&script[..length]));
     }
