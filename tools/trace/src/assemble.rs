@@ -2,11 +2,11 @@
 
 use crate::command::Command;
 use crate::format::{Format, Given};
-use crate::kind::{open_after, Kind};
 use crate::line::{parse, Line};
 use crate::lines::Lines;
 use crate::remarks::Remarks;
 use crate::runs::Trace;
+use crate::warning::{self, Open};
 use crate::LONGEST;
 use std::io::{self, BufRead};
 
@@ -55,6 +55,7 @@ pub fn assemble(text: impl BufRead, wiring: Option<u32>) -> Result<Assembled, Fa
     };
     let (mut faults, mut warnings) = (Remarks::default(), Remarks::default());
     while !faults.more() && lines.advance()? {
+        assembler.number = lines.number();
         let line = lines.line().map_err(Wrong::Rest);
         match line.and_then(|line| assembler.line(line)) {
             Ok(None) => {}
@@ -84,8 +85,10 @@ struct Assembler {
     said: Given,
     /// The clock of the next word.
     clock: u64,
-    /// The first word of the open pair.
-    first: Option<u32>,
+    /// The pair that is open.
+    open: Option<Open>,
+    /// The number of the line that is read.
+    number: u64,
     trace: Trace,
 }
 
@@ -95,7 +98,9 @@ impl Assembler {
         let line = std::str::from_utf8(line).map_err(|_| "not UTF-8 text".to_string())?;
         match parse(line, self.format())? {
             None => {}
-            Some(Line::Words(command, count)) => return self.words(command, count),
+            Some(Line::Words(command, count)) => {
+                return self.words(command.name().unwrap_or("WORD"), command, count)
+            }
             Some(Line::At(clock)) => return self.at(clock),
             Some(Line::Byte(byte)) => self.byte(byte)?,
             Some(Line::Bl(bl)) => {
@@ -146,8 +151,8 @@ impl Assembler {
         }
     }
 
-    /// Adds a command, so many times.
-    fn words(&mut self, command: Command, count: u64) -> Outcome {
+    /// Adds a command, so many times; the line calls it by a name.
+    fn words(&mut self, name: &str, command: Command, count: u64) -> Outcome {
         if self.trace.rest() > 0 {
             return Err("a word stands after BYTE".to_string().into());
         }
@@ -155,23 +160,17 @@ impl Assembler {
             let what = format!("the trace is longer than {LONGEST} words");
             return Err(Wrong::Rest(what));
         }
-        let warning = self.warning(command);
+        let given = warning::Given {
+            name,
+            command,
+            count,
+            line: self.number,
+        };
+        let warning = given.warning(self.open, self.format());
         self.clock += count;
-        self.first = open_after(self.first, command.word(), count);
+        self.open = given.leaves(self.open);
         self.trace.add(command.word(), count as u32);
         Ok(warning)
-    }
-
-    /// What is to be said of a LAL that closes a write and leaves out a lane, where that is the reserved code.
-    fn warning(&self, command: Command) -> Option<String> {
-        if Kind::of(self.first, command.word()) != Kind::WriteLal {
-            return None;
-        }
-        let lanes = command.reserved_by_omission(self.format());
-        let lanes = (!lanes.is_empty()).then(|| lanes.join(" or "))?;
-        Some(format!(
-            "warning: a write's LAL without {lanes} has the reserved code of BL 4"
-        ))
     }
 
     /// Adds DESL up to a clock.
@@ -182,7 +181,7 @@ impl Assembler {
         }
         match clock - self.clock {
             0 => Ok(None),
-            count => self.words(Command::Desl, count),
+            count => self.words("at", Command::Desl, count),
         }
     }
 

@@ -56,6 +56,20 @@ impl Command {
         }
     }
 
+    /// The maker's name of the command, or that of the pin; a bare word has none.
+    pub fn name(&self) -> Option<&'static str> {
+        Some(match self {
+            Command::Desl => "DESL",
+            Command::PowerDown => "PD",
+            Command::Rda { .. } => "RDA",
+            Command::Wra { .. } => "WRA",
+            Command::Lal { .. } => "LAL",
+            Command::Extended(_) | Command::Regular { .. } => "MRS",
+            Command::Ref => "REF",
+            Command::Word(_) => return None,
+        })
+    }
+
     /// The lanes that the format has and a write's LAL leaves out, where pins that are low are the reserved code.
     pub fn reserved_by_omission(&self, format: Format) -> Vec<&'static str> {
         let mut lanes = Vec::new();
@@ -74,24 +88,24 @@ impl Command {
 /// The line of the command, as the listing has it.
 impl fmt::Display for Command {
     fn fmt(&self, out: &mut fmt::Formatter) -> fmt::Result {
+        write!(out, "{}", self.name().unwrap_or("WORD"))?;
         match self {
-            Command::Desl => write!(out, "DESL"),
-            Command::PowerDown => write!(out, "PD"),
-            Command::Rda { bank, row } => write!(out, "RDA bank {bank} row {row}"),
-            Command::Wra { bank, row } => write!(out, "WRA bank {bank} row {row}"),
+            Command::Desl | Command::PowerDown | Command::Ref => Ok(()),
+            Command::Rda { bank, row } | Command::Wra { bank, row } => {
+                write!(out, " bank {bank} row {row}")
+            }
             Command::Lal {
                 column,
                 lower,
                 upper,
             } => {
-                write!(out, "LAL column {column}")?;
+                write!(out, " column {column}")?;
                 lower.map_or(Ok(()), |lane| write!(out, " lower {}", lane.name))?;
                 upper.map_or(Ok(()), |lane| write!(out, " upper {}", lane.name))
             }
-            Command::Extended(value) => write!(out, "MRS extended {value}"),
-            Command::Regular { cl, bl, a3 } => write!(out, "MRS regular cl {cl} bl {bl} a3 {a3}"),
-            Command::Ref => write!(out, "REF"),
-            Command::Word(word) => write!(out, "WORD {word:#X}"),
+            Command::Extended(value) => write!(out, " extended {value}"),
+            Command::Regular { cl, bl, a3 } => write!(out, " regular cl {cl} bl {bl} a3 {a3}"),
+            Command::Word(word) => write!(out, " {word:#X}"),
         }
     }
 }

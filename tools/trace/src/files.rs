@@ -1,10 +1,12 @@
 //! The files of a call: an input that is open, and an output that is not touched before there is something to write.
 
+use crate::whole;
 use std::ffi::{OsStr, OsString};
 use std::fs::{File, Metadata};
 use std::io::{self, BufWriter, ErrorKind, Read, Write};
 use std::os::fd::AsFd;
 use std::os::unix::fs::MetadataExt;
+use std::path::Path;
 
 /// The argument that stands for standard input or output.
 pub const STANDARD: &str = "-";
@@ -20,6 +22,9 @@ pub struct Output {
     pub name: String,
     argument: OsString,
 }
+
+/// Where the content of an output goes.
+pub type Content<'a> = BufWriter<&'a File>;
 
 /// A name in messages, with U+FFFD in place of what is no UTF-8.
 fn shown(argument: &OsStr, standard: &str) -> String {
@@ -79,22 +84,29 @@ impl Output {
     /// Writes a file or standard output; a failure is a message. A reader that closes a pipe has read enough, and that is none.
     pub fn write(
         &self,
-        content: impl FnOnce(&mut BufWriter<File>) -> io::Result<()>,
+        content: impl FnOnce(&mut Content) -> io::Result<()>,
     ) -> Result<(), String> {
-        let file = match self.argument == STANDARD {
-            true => stream(io::stdout()),
-            false => File::create(&self.argument),
-        };
-        let written = file.and_then(|file| {
-            let mut out = BufWriter::new(file);
-            content(&mut out)?;
-            out.flush()
-        });
-        match written {
+        match self.fill(content) {
             Err(error) if error.kind() != ErrorKind::BrokenPipe => {
                 Err(format!("{}: {error}", self.name))
             }
             _ => Ok(()),
+        }
+    }
+
+    /// Writes a regular file as a whole, and anything else as far as it goes.
+    fn fill(&self, content: impl FnOnce(&mut Content) -> io::Result<()>) -> io::Result<()> {
+        let through = |file: &File| {
+            let mut out = BufWriter::new(file);
+            content(&mut out)?;
+            out.flush()
+        };
+        if self.argument == STANDARD {
+            return whole::extend(&stream(io::stdout())?, through);
+        }
+        match whole::place(Path::new(&self.argument))? {
+            Some(place) => whole::write(&place, through),
+            None => whole::extend(&File::create(&self.argument)?, through),
         }
     }
 }

@@ -11,7 +11,9 @@ mod list;
 mod pins;
 mod remarks;
 mod runs;
+mod text;
 mod time;
+mod warning;
 
 pub use assemble::{assemble, Assembled, Failure};
 pub use format::{Format, Given};
@@ -19,6 +21,7 @@ pub use lines::{LONGEST_LINE, LONGEST_TEXT};
 pub use list::list;
 pub use remarks::Remarks;
 pub use runs::Trace;
+pub use text::is_text;
 pub use time::{PERIOD, PERIODS};
 
 /// The most words of a trace that is assembled or listed: four times the longest that is checked.

@@ -117,9 +117,28 @@ fn what_cannot_be_read() {
     }
 }
 
+/// What is asked for goes to standard output, and is no error.
+#[test]
+fn usage_and_version() {
+    for arguments in [
+        &["--help"][..],
+        &["-h"],
+        &["list", "--help"],
+        &["assemble", "a", "--help"],
+    ] {
+        let asked = run(arguments, b"");
+        assert_eq!(said(&asked), (Some(0), String::new()));
+        assert!(asked.stdout.starts_with(b"usage:\n  trace assemble "));
+    }
+    let asked = run(&["--version"], b"");
+    assert_eq!(said(&asked), (Some(0), String::new()));
+    let wanted = concat!("trace ", env!("CARGO_PKG_VERSION"), "\n");
+    assert_eq!(String::from_utf8(asked.stdout).unwrap(), wanted);
+}
+
 #[test]
 fn wrong_arguments() {
-    let calls: [&[&str]; 25] = [
+    let calls: [&[&str]; 28] = [
         &[],
         &["print"],
         &["assemble", "a", "b", "c"],
@@ -145,6 +164,9 @@ fn wrong_arguments() {
         &["list", "--period", "5 ns"],
         &["list", "--period", "4294972296"],
         &["list", "--period", "5000", "--period", "5000"],
+        &["list", "--force", "--force"],
+        &["assemble", "--force"],
+        &["list", "--version"],
     ];
     for arguments in calls {
         let (status, what) = said(&run(arguments, b""));

@@ -65,6 +65,11 @@ pub fn good(text: &str) -> Assembled {
     good_as(text, None)
 }
 
+/// The warnings on a good text, as the program prints them of a file `t`.
+pub fn warnings(text: &str) -> Vec<String> {
+    good(text).warnings.messages("t", "warnings")
+}
+
 /// The bytes of a good text.
 pub fn assembled(text: &str) -> Vec<u8> {
     good(text).trace.bytes()
@@ -83,11 +88,12 @@ pub fn faults_as(text: impl BufRead, wiring: Option<u32>) -> Vec<String> {
     }
 }
 
-/// Lists bytes and assembles the listing, which must give the bytes back.
+/// Lists bytes and assembles the listing, which must give the bytes back, without a warning.
 pub fn round(bytes: &[u8], format: Format) {
     let text = listing(bytes, format);
-    if assembled(&text) != bytes {
-        panic!("{format:?}\n{bytes:02X?}\n{text}");
+    let back = good(&text);
+    if back.trace.bytes() != bytes || !back.warnings.is_empty() {
+        panic!("{format:?}\n{bytes:02X?}\n{text}\n{:?}", back.warnings);
     }
 }
 
