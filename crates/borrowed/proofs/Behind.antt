@@ -1,10 +1,13 @@
 -- What the walks of `offer` and `tick` share: a struct of plain data behind a `&mut` is copied out whole, a covered function is called on
--- the copy, and the struct that it hands back is stored. Known the relation of a value of such a struct to its machine value, written out
--- opened the `&mut` is opened: the machine value that lies there is written out, and its relation is in hand closed it is closed at another
--- value, whose machine value lies there; what the value owns is given up read a call has returned a struct of plain data, whose relation is
--- in hand: its machine value is written out told the same from what a call hands back: what its value owns, the tokens, the fact that the
--- callee's `ensures` states of it, and its relation typed the machine value has the struct's MIR type reached a walk, which uses no
--- `requires`, is taken to the function's theorem.
+-- the copy, and the struct that it hands back is stored.
+--     Known     the relation of a value of such a struct to its machine value, written out
+--     opened    the `&mut` is opened: the machine value that lies there is written out, and its relation is in hand
+--     closed    it is closed at another value, whose machine value lies there; what the value owns is given up
+--     read      a call has returned a struct of plain data, whose relation is in hand: its machine value is written out
+--     told      the same from what a call hands back: what its value owns, the tokens, the fact that the callee's `ensures` states of it,
+--               and its relation
+--     typed     the machine value has the struct's MIR type
+--     reached   a walk, which uses no `requires`, is taken to the function's theorem
 use mathlib.Core.Path.{refl, ap, subst}
 use Prim.Native.Nat.{ℕ}
 use mathlib.Core.List.{List, [], _∷_}

@@ -1,9 +1,12 @@
 -- The locals of a walked function, in the context of its walk: one after the other from _0 on, each as its cell and the right to free it.
--- Blocks, env where the locals lie, and the environment that they make Content, locals a local is room, or it holds a value; and the locals
--- as entries of a context cell n i the position of _i's cell in a context where n entries stand before the locals. A comment in brackets
--- lists those begins the function is entered: its parameters hold what was passed, and the others are room aside, freed the first entry
--- goes behind all others; the first local, which holds something, is freed held, held-field a local is read, or a field of it sets,
--- lands-in a local that is room is assigned, or gets what a call returns Assumes `Given`.
+--     Blocks, env       where the locals lie, and the environment that they make
+--     Content, locals   a local is room, or it holds a value; and the locals as entries of a context
+--     cell n i          the position of _i's cell in a context where n entries stand before the locals. A comment in brackets lists those
+--     begins            the function is entered: its parameters hold what was passed, and the others are room
+--     aside, freed      the first entry goes behind all others; the first local, which holds something, is freed
+--     held, held-field  a local is read, or a field of it
+--     sets, lands-in    a local that is room is assigned, or gets what a call returns
+-- Assumes `Given`.
 use mathlib.Core.Path.{_≡_, refl}
 use Prim.Native.Nat.{ℕ, zero, _+_, _*_}
 use mathlib.Core.Option.{some}

@@ -1,10 +1,14 @@
 -- A struct in a local that is lent by `&mut` for a call. Its type may name a lifetime κ: the call's lifetime is `ν ∷ κ`, with a ν that is
--- made for it, so that κ outlives it. A plain type names none, and κ is the empty list. unbounded the token of the empty list is had for
--- nothing Lent ν γ what the lender keeps: the way back to ν's whole token, and the lender's part lent what h owns, [κ]_q and the local's
--- cell, which is entry n behind them, give the `&(ν ∷ κ) mut` ((b, 0), γ, h), [ν ∷ κ]_left and [κ]_right, the halves of q; Lent ν γ stands
--- at the cell's place meanwhile returned a call of a function with one `&mut` has returned: its tokens, the last value, the fact of the
--- callee's `ensures`, and the relation of the result regained [ν ∷ κ]_left, [κ]_right, the last value z and Lent ν γ at entry n give what z
--- owns, [κ]_q, and the cell at its place Assumes `Given`.
+-- made for it, so that κ outlives it. A plain type names none, and κ is the empty list.
+--     unbounded         the token of the empty list is had for nothing
+--     Lent ν γ          what the lender keeps: the way back to ν's whole token, and the lender's part
+--     lent              what h owns, [κ]_q and the local's cell, which is entry n behind them, give the `&(ν ∷ κ) mut` ((b, 0), γ, h),
+--                       [ν ∷ κ]_left and [κ]_right, the halves of q; Lent ν γ stands at the cell's place meanwhile
+--     returned          a call of a function with one `&mut` has returned: its tokens, the last value, the fact of the callee's `ensures`,
+--                       and the relation of the result
+--     regained          [ν ∷ κ]_left, [κ]_right, the last value z and Lent ν γ at entry n give what z owns, [κ]_q, and the cell at its
+--                       place
+-- Assumes `Given`.
 use Prim.Native.Nat.{ℕ, suc}
 use mathlib.Core.Path.{_≡_, refl}
 use mathlib.Core.List.{List, [], _∷_}
