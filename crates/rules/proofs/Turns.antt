@@ -9,7 +9,7 @@ use lib.ListN.{length}
 use Rattle.command.specs.Pins.{high}
 use Rattle.command.specs.Pairs.{selected}
 use Rattle.rules.specs.History.{ClosedPair, idle, poweredDown, Rest, pair, between, Past, afterDesl, extend, pastFrom}
-use Rattle.rules.specs.Turns.{Turn, closed, single, opensPair, turnsFrom, joined, clockOf, pairsIn, NoneOpen, Turns}
+use Rattle.rules.specs.Turns.{Turn, closed, single, opensPair, turnsFrom, wordsInAll, clockOf, pairsIn, NoneOpen, Turns}
 
 -- words from a clock on and their turns, by the four ways in which a turn is taken: what is shown of these is shown of every trace
 pub data Turned : ℕ → List ℕ → List Turn → Type 0 where
@@ -34,7 +34,7 @@ turned k (w ∷ v ∷ ws) = by (opensPair w) refl (turned (k + 2) ws) (turned (k
     by true e two one = paired e two
     by false e two one = alone e one
 
-covered : {k : ℕ} {ws : List ℕ} {xs : List Turn} → Turned k ws xs → joined xs ≡ ws
+covered : {k : ℕ} {ws : List ℕ} {xs : List Turn} → Turned k ws xs → wordsInAll xs ≡ ws
 covered ended = refl
 covered last = refl
 covered (paired {w = w} {v = v} e t) = ap (λ ws. w ∷ v ∷ ws) (covered t)
@@ -82,7 +82,7 @@ pairs-from (alone {k = k} {w = w} {v = v} {ws = ws} e t) r ps =
 
 -- a turn stands behind the words of those before it, where no pair is open
 abbrev Placed : Past → List Turn → Turn → Type 0
-Placed p before x = (clockOf x ≡ p .clock + length (joined before)) × NoneOpen (pastFrom p (joined before) .phase)
+Placed p before x = (clockOf x ≡ p .clock + length (wordsInAll before)) × NoneOpen (pastFrom p (wordsInAll before) .phase)
 
 placed-from : {k : ℕ} {ws : List ℕ} {xs : List Turn} → Turned k ws xs
     → (r : Rest) (ps : List ClosedPair) (before after : List Turn) (x : Turn)
@@ -98,13 +98,13 @@ placed-from (paired {k = k} {w = w} {v = v} o t) r ps (y ∷ before) after x e =
     let h = placed-from t idle (pr ∷ ps) before after x (tail-eq-of-cons-eq e) in
     let at = h .0 in
     subst⁻¹ (λ y. Placed (restAt k r ps) (y ∷ before) x) (sym (head-eq-of-cons-eq e))
-    (omega arith, subst⁻¹ (λ p. NoneOpen (pastFrom p (joined before) .phase)) (pair-extends k w v r ps o) (h .1))
+    (omega arith, subst⁻¹ (λ p. NoneOpen (pastFrom p (wordsInAll before) .phase)) (pair-extends k w v r ps o) (h .1))
 placed-from (alone {k = k} o t) r ps [] after x e = (sym (ap clockOf (head-eq-of-cons-eq e)) ∙ omega arith, tt)
 placed-from (alone {k = k} {w = w} o t) r ps (y ∷ before) after x e =
     let h = placed-from t (restAfter r w) ps before after x (tail-eq-of-cons-eq e) in
     let at = h .0 in
     subst⁻¹ (λ y. Placed (restAt k r ps) (y ∷ before) x) (sym (head-eq-of-cons-eq e))
-    (omega arith, subst⁻¹ (λ p. NoneOpen (pastFrom p (joined before) .phase)) (single-extends k w r ps o) (h .1))
+    (omega arith, subst⁻¹ (λ p. NoneOpen (pastFrom p (wordsInAll before) .phase)) (single-extends k w r ps o) (h .1))
 
 pub turns : Turns
 turns =

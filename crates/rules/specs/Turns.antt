@@ -43,9 +43,9 @@ wordsIn (closed p) = p .first ∷ p .second ∷ []
 wordsIn (single k w) = w ∷ []
 
 -- the words of turns, one turn behind the other
-abbrev pub joined : List Turn → List ℕ
-joined [] = []
-joined (x ∷ xs) = wordsIn x ++ joined xs
+abbrev pub wordsInAll : List Turn → List ℕ
+wordsInAll [] = []
+wordsInAll (x ∷ xs) = wordsIn x ++ wordsInAll xs
 
 -- the clock of a turn's first word
 abbrev pub clockOf : Turn → ℕ
@@ -53,14 +53,14 @@ clockOf (closed p) = p .start
 clockOf (single k w) = k
 
 -- the pair that a turn closes, if it does
-abbrev pub pairIn : Turn → List ClosedPair
-pairIn (closed p) = p ∷ []
-pairIn (single k w) = []
+abbrev pub pairClosed : Turn → List ClosedPair
+pairClosed (closed p) = p ∷ []
+pairClosed (single k w) = []
 
 -- the pairs that turns close, oldest first
 abbrev pub pairsIn : List Turn → List ClosedPair
 pairsIn [] = []
-pairsIn (x ∷ xs) = pairIn x ++ pairsIn xs
+pairsIn (x ∷ xs) = pairClosed x ++ pairsIn xs
 
 -- the closed pairs of a trace, newest first
 abbrev pub pairsOf : List ℕ → List ClosedPair
@@ -95,9 +95,9 @@ NoneOpen (between r) = Unit {0}
 -- the theorem, for every trace
 pub record Turns : Type 0 where
   -- each word is in one turn, in order
-  pub covered : (words : List ℕ) → joined (turnsOf words) ≡ words
+  pub covered : (words : List ℕ) → wordsInAll (turnsOf words) ≡ words
   -- a turn stands behind the words of those before it, where no pair is open
   pub placed : (words : List ℕ) (before after : List Turn) (x : Turn) → turnsOf words ≡ before ++ x ∷ after
-      → (clockOf x ≡ length (joined before)) × NoneOpen (pastFrom nothing (joined before) .phase)
+      → (clockOf x ≡ length (wordsInAll before)) × NoneOpen (pastFrom nothing (wordsInAll before) .phase)
   -- the turns of two words are the closed pairs of the history, all of them
   pub pairs : (words : List ℕ) → reverse (pairsIn (turnsOf words)) ≡ pairsOf words
