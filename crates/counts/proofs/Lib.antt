@@ -1,2 +1,3 @@
--- How the counts of a list of words grow by one word.
-pub mod Growth
+-- The counts by turns are those of the history; and the loop over the turns.
+pub mod ByTurns
+pub mod Tallying

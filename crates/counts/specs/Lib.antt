@@ -1,3 +1,3 @@
--- What the contracts of this crate say; OneWord is for the loop, which goes word by word.
+-- What the contracts of this crate say; OneTurn is for the loop, which goes turn by turn.
 pub mod Counts
-pub mod OneWord
+pub mod OneTurn

@@ -1,17 +1,19 @@
 // How often each command stands in a trace (the paper's tally). It judges nothing.
 use basics::Refusal;
+use command::Pair;
 use command::pins::CS;
 use command::pins::FN;
-use command::pins::PD;
 use command::pins::bit;
 use command::pins::high;
-use stamps::DESL;
-use stamps::next_met;
+use turns::TurnAnswer;
+use turns::opens_pair;
+use turns::turn;
 ghost use mathlib.Core.Path.{_≡_};
-ghost use Prim.Native.Nat.{_+_, _≤_, _<_};
+ghost use Prim.Native.Nat.{_≤_};
 ghost use lib.ListN.{length};
-ghost use Rattle.counts.specs.Counts.{countsOf, countingOutcome, countingOf};
-ghost use Rattle.counts.specs.OneWord.{counted, Below};
+ghost use Rattle.rules.specs.Turns.{turnsOf};
+ghost use Rattle.counts.specs.Counts.{noCounts, countingOutcome, countingOf};
+ghost use Rattle.counts.specs.OneTurn.{Below, withPair, withSingle, withTurns};
 
 // How many reads, writes, modes and refreshes were closed, and how many words were DESL or, outside of pairs, had PD low.
 pub struct CommandCounts {
@@ -36,38 +38,52 @@ const ZERO: CommandCounts = CommandCounts {
     desls: 0,
 };
 
-// What one word adds, by what it meets: with PD low, where no pair is open, it counts as DESL. `words` bounds the counts so far.
-fn counted(counts: CommandCounts, words: usize, first: u32, word: u32) -> CommandCounts
-    requires { ⌜ (words < 65536) × Below words counts ⌝ }
-    ensures { λ r. ⌜ (r ≡ counted counts first word) × Below (words + 1) r ⌝ }
+// The counts with one more closed pair, of the kind that its two words make.
+fn with_pair(counts: CommandCounts, pair: Pair) -> CommandCounts
+    requires { ⌜ Below 65536 counts ⌝ }
+    ensures { λ r. ⌜ r ≡ withPair counts (pair .first) (pair .second) ⌝ }
 {
-    let idle = high(first, CS);
-    let rda = high(first, FN);
-    let lal = high(word, CS);
-    let low = !high(word, PD);
+    let rda = high(pair.first, FN);
+    let lal = high(pair.second, CS);
     CommandCounts {
-        reads: counts.reads + bit(!idle & (rda & lal)),
-        writes: counts.writes + bit(!idle & (!rda & lal)),
-        modes: counts.modes + bit(!idle & (rda & !lal)),
-        refreshes: counts.refreshes + bit(!idle & (!rda & !lal)),
-        desls: counts.desls + bit(idle & (low | lal)),
+        reads: bit(rda & lal) + counts.reads,
+        writes: bit(!rda & lal) + counts.writes,
+        modes: bit(rda & !lal) + counts.modes,
+        refreshes: bit(!rda & !lal) + counts.refreshes,
+        desls: counts.desls,
     }
 }
 
+// The counts with one more single word: DESL, or one with PD low. One that opens a pair, which the trace does not close, is not counted.
+fn with_single(counts: CommandCounts, word: u32) -> CommandCounts
+    requires { ⌜ Below 65536 counts ⌝ }
+    ensures { λ r. ⌜ r ≡ withSingle counts word ⌝ }
+{
+    let mut more = counts;
+    more.desls = bit(!opens_pair(word)) + counts.desls;
+    more
+}
+
+// Each turn starts with no pair open, and takes both words of a closed pair or else a single word.
 fn counts_of(words: &[u32]) -> CommandCounts
     requires { ⌜ length (now words) ≤ 65536 ⌝ }
-    ensures { λ r. ⌜ r ≡ countsOf (now (words .entry)) ⌝ }
+    ensures { λ r. ⌜ r ≡ withTurns noCounts (turnsOf (now (words .entry))) ⌝ }
 {
     let mut counts = ZERO;
-    let mut first = DESL;
-    let mut i = 0;
-    while i < words.len() {
-        let word = words[i];
-        counts = counted(counts, i, first, word);
-        first = next_met(first, word);
-        i += 1;
+    let mut at = 0;
+    loop {
+        match turn(words, at) {
+            TurnAnswer::Closed(pair, next) => {
+                counts = with_pair(counts, pair);
+                at = next;
+            }
+            TurnAnswer::Single(word, next) => {
+                counts = with_single(counts, word);
+                at = next;
+            }
+            TurnAnswer::End => return counts,
+        }
     }
-    counts
 }
 
 // Counts the commands of at most 65,536 words; more refuse 30.

@@ -43,6 +43,9 @@ use Rattle.limits.specs.declared.LimitsAnswer.{LimitsAnswer}
 use Rattle.duration.specs.Answers.{durationOutcome}
 use Rattle.duration.specs.declared.Duration.{Duration}
 use Rattle.duration.specs.declared.DurationAnswer.{DurationAnswer}
+use Rattle.rules.specs.Turns.{Turn, closed, single}
+use Rattle.turns.specs.OneTurn.{turnOutcome}
+use Rattle.turns.specs.declared.TurnAnswer.{TurnAnswer}
 use Rattle.counts.specs.Counts.{countingOutcome}
 use Rattle.counts.specs.declared.CommandCounts.{CommandCounts}
 use Rattle.counts.specs.declared.CountsAnswer.{CountsAnswer}
@@ -177,6 +180,17 @@ unfolding counted
 counting-is (CountsAnswer.Counted c) = refl
 counting-is (CountsAnswer.Refused r c) = ap (λ o. counted o c) (named-is r)
 
+turned : List Turn → ℕ → TurnAnswer
+turned [] n = TurnAnswer.End
+turned (closed p ∷ xs) n = TurnAnswer.Closed (record { first = p .first; second = p .second }) n
+turned (single k w ∷ xs) n = TurnAnswer.Single w n
+
+turned-is : (at : ℕ) (x : TurnAnswer) → turned (turnOutcome at x .turn) (turnOutcome at x .next) ≡ x
+unfolding turned
+turned-is at (TurnAnswer.Closed p n) = refl
+turned-is at (TurnAnswer.Single w n) = refl
+turned-is at TurnAnswer.End = refl
+
 call : Outcome (Unit {0}) → CallAnswer
 call (value u) = CallAnswer.Accepted
 call (refused n) = CallAnswer.Refused (refusal n)
@@ -223,6 +237,7 @@ answers =
       within = inverted findingOutcome within within-is;
       duration = inverted durationOutcome duration duration-is;
       counting = same-counting;
+      turn = λ at. inverted (turnOutcome at) (λ r. turned (r .turn) (r .next)) (turned-is at);
       call = same-call;
       offer = λ x y e i. record { answer = same-call (x .answer) (y .answer) (ap (λ r. r .outcome) e) i; controller = e i .after };
       tick =

@@ -30,6 +30,7 @@ use Rattle.checker.specs.declared.checker.Checker.{Checker}
 use Rattle.checker.specs.declared.checker.Verdict.{Verdict}
 use Rattle.limits.specs.Answers.{findingOutcome}
 use Rattle.duration.specs.Answers.{durationOutcome}
+use Rattle.turns.specs.OneTurn.{turnOutcome}
 use Rattle.counts.specs.Counts.{countsOf, noCounts, countingOutcome, countingOf}
 use Rattle.counts.specs.declared.CommandCounts.{CommandCounts}
 use Rattle.counts.specs.declared.CountsAnswer.{CountsAnswer}
@@ -209,8 +210,9 @@ pub record Answers : Type 0 where
   pub within : Injective findingOutcome
   -- `trace_duration`
   pub duration : Injective durationOutcome
-  -- `count_commands`
+  -- `count_commands`, and `turn`, by which it goes
   pub counting : Injective countingOutcome
+  pub turn : (at : ℕ) → Injective (turnOutcome at)
   -- the calls on a borrowed controller; with the state, `Controller::offer` and `Controller::tick`
   pub call : Injective callOutcome
   pub offer : Injective offered

@@ -1,5 +1,6 @@
 -- Each by its own theorem.
 use Rattle.rules.proofs.Turns.{turns}
+use Rattle.turns.proofs.EveryTurn.{every-turn}
 use Rattle.rules.proofs.Kept.{enough}
 use Rattle.checker.proofs.Refinement.{refinement}
 use Rattle.walks.proofs.Walk.{walk}
@@ -20,6 +21,7 @@ pub promises : Promises
 promises =
     record {
       turns = turns;
+      every-turn = every-turn;
       kept = enough;
       stepping = refinement;
       walk = walk;

@@ -2,6 +2,7 @@
 -- is proved to meet; a theorem says what follows from them, for all sheets, all traces and all lists of calls. Each is a record of
 -- sentences in the file that its `use` line names.
 use Rattle.rules.specs.Turns.{Turns}
+use Rattle.turns.specs.EveryTurn.{EveryTurn}
 use Rattle.rules.specs.Kept.{Enough}
 use Rattle.checker.specs.Refinement.{Refinement}
 use Rattle.walks.specs.Walk.{Walk}
@@ -20,6 +21,8 @@ use Rattle.excluded.specs.Excluded.{Excluded}
 pub record Promises : Type 0 where
   -- a trace is cut into pairs and single words in one way, and its pairs are those that the rules speak of (RULES 2.2)
   pub turns : Turns
+  -- whoever goes through a trace turn by turn takes just these, and each turn starts with no pair open (RULES 9.2)
+  pub every-turn : EveryTurn
   -- the few timestamps that are kept find every breach that the published rules find in the whole past (RULES 4)
   pub kept : Enough
   -- word by word the checker comes to the published verdict (RULES 5.4), and so does a walk over lent words (RULES 5.5)

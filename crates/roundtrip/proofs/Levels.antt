@@ -1,17 +1,13 @@
 -- A pin's level and the test whether it is high are two forms of one thing.
-use Prim.Native.Nat.{ℕ, zero, suc, _+_, _*_, _≤_, _<_, _/_, _^_}
+use Prim.Native.Nat.{ℕ, zero, suc, _+_, _*_, _<_, _/_, _^_}
 use mathlib.Core.Path.{_≡_, refl, _∙_}
 use mathlib.Core.Bool.{Bool, true, false}
 use native.Mathlib.Omega.{arith}
 use native.Mathlib.Nat.{mod-lt, mod-mod}
 use lib.Pow.{mod-pow-add, shr-shr}
 use borrow.Author.Tests.{eq-eqb, ne-eqb}
-use lib.Dec.{eqb, lit<, lit≤}
+use lib.Dec.{eqb, lit<}
 use Rattle.command.specs.Pins.{pins, high, put, level}
-
-pub level-bound : (b : Bool) → level b ≤ 1
-level-bound true = lit≤ tt
-level-bound false = lit≤ tt
 
 pub high-is : (n w : ℕ) (b : Bool) → pins n 1 w ≡ level b → high n w ≡ b
 high-is n w true e = eq-eqb (pins n 1 w) 1 e

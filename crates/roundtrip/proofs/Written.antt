@@ -9,7 +9,8 @@ use lib.Dec.{leb, lit<}
 use Rattle.config.proofs.Bounds.{both}
 use Rattle.command.specs.Pins.{pins, high, put, drive, strayBit}
 use Rattle.command.specs.Address.{bankOf, rowOf, addressFits, addressAt}
-use Rattle.roundtrip.proofs.Levels.{level-bound, high-is, pins-split}
+use Rattle.command.proofs.Levels.{level-bound}
+use Rattle.roundtrip.proofs.Levels.{high-is, pins-split}
 
 -- RDA or WRA, with four banks (true) or eight
 pub record First (four write : Bool) (b r w : ℕ) : Type 0 where

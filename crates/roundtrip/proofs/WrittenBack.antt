@@ -16,7 +16,8 @@ use Rattle.writing.specs.Writing.{laneFits, lanesFit, requestFits, operationFit
 use Rattle.command.specs.declared.operation.Request.{Request}
 use Rattle.command.specs.declared.operation.Operation.{Operation}
 use Rattle.command.specs.declared.operation.Operation.the-variants.{Access, Regular, Extended, Refresh}
-use Rattle.roundtrip.proofs.Levels.{level-bound, high-is}
+use Rattle.command.proofs.Levels.{level-bound}
+use Rattle.roundtrip.proofs.Levels.{high-is}
 use Rattle.roundtrip.proofs.Lanes.{vw0, vw1, lane}
 use Rattle.roundtrip.proofs.Written.{First, first-word, secondWord, second-word}
 

@@ -8,6 +8,7 @@ use denote.Ref.{now}
 use native.Mathlib.Omega.{arith}
 use borrow.Author.Tests.{le-leb, lt-leb}
 use borrow.Author.Needs.{needs}
+use Rattle.counts.proofs.ByTurns.{counts-by-turns}
 use Rattle.counts.proofs.count_commands.Statement.{statement}
 use Rattle.counts.proofs.count_commands.Tie as tie
 
@@ -25,7 +26,7 @@ counts-of-requires : tie.Need-counts-of-requires
 counts-of-requires c κs = search needs
 
 returns : tie.Need-returns
-returns c = rw (c .counts-of .ensures, short (c .before))
+returns c = rw (c .counts-of .ensures, counts-by-turns (now (c .before .before .before .args .words)), short (c .before))
 
 returns-2 : tie.Need-returns-2
 returns-2 c = rw (long c)

@@ -1,67 +1,78 @@
--- The invariant: the counts are those of the words passed, and the first word says what the next one meets.
-use Prim.Native.Nat.{_+_, _-_, _≤_}
-use mathlib.Core.Path.{_≡_, refl, _∙_, ap}
-use mathlib.Core.List.{[], _∷_, _++_}
-use native.Mathlib.Numerals.{add-one}
+-- The invariant: no pair is open, and with the turns that are left the counts come to those of all.
+use Prim.Native.Nat.{_-_}
+use mathlib.Core.Path.{_≡_, refl, sym, _∙_, ap}
+use native.Mathlib.Omega.{arith}
 use borrow.Author.Needs.{needs}
-use lib.ListN.{length, take, getD}
-use lib.Seq.{take-suc, take-all}
+use lib.ListN.{length}
 use denote.Ref.{now}
-use Rattle.rules.specs.History.{nothing, pastFrom}
-use Rattle.rules.specs.Kept.{metOf}
-use Rattle.counts.specs.Counts.{countsOf}
-use Rattle.counts.specs.OneWord.{Below}
-use Rattle.counts.proofs.Growth.{counts-append, first-append}
+use Rattle.turns.specs.OneTurn.{turnOutcome}
+use Rattle.turns.specs.declared.TurnAnswer.{TurnAnswer}
+use Rattle.turns.proofs.Answered.{Answered, answered}
+use Rattle.counts.proofs.Tallying.{Tallying, begins, goes-on, ends}
 use Rattle.counts.proofs.counts_of.Statement.{statement}
 use Rattle.counts.proofs.counts_of.Tie as tie
 
 abbrev Inv-loop : tie.InvT-loop
-Inv-loop words counts₀ first₀ i₀ counts first i =
-    (i ≤ length words)
-    × Below i counts
-    × (counts ≡ countsOf (take i words))
-    × (first ≡ metOf (pastFrom nothing (take i words) .phase))
+Inv-loop words counts₀ at₀ counts at = Tallying words at counts
 
 abbrev μ-loop : tie.MeasureT-loop
-μ-loop words counts₀ first₀ i₀ counts first i = length words - i
+μ-loop words counts₀ at₀ counts at = length words - at
 
 loop-holds : tie.Need-loop-holds Inv-loop μ-loop
-loop-holds c = (search needs, search needs, refl, refl)
+loop-holds c = begins (now (c .before .args .words))
 
-mul-word : tie.Need-mul-word Inv-loop μ-loop
-mul-word c = search needs
+turn-requires : tie.Need-turn-requires Inv-loop μ-loop
+turn-requires c κs = search needs
 
-shared-slice-read-word : tie.Need-shared-slice-read-word Inv-loop μ-loop
-shared-slice-read-word c = search needs
+-- what the answer says of the turns that are left
+told : (c : tie.After-turn Inv-loop μ-loop) {answer : TurnAnswer} → c .turn .result ≡ answer
+    → Answered (now (c .before .before .before .args .words)) (c .before .loop .at) (turnOutcome (c .before .loop .at) answer)
+told c {answer} e =
+    let at = c .before .loop .at in
+    answered (now (c .before .before .before .args .words)) at (turnOutcome at answer) (c .before .loop .inv .inside)
+    (ap (turnOutcome at) (sym e) ∙ c .turn .ensures)
 
-counted-requires : tie.Need-counted-requires Inv-loop μ-loop
-counted-requires c κs = search needs
+enum-known-pair : tie.Need-enum-known-pair Inv-loop μ-loop
+enum-known-pair c = search needs
 
-next-met-requires : tie.Need-next-met-requires Inv-loop μ-loop
-next-met-requires c κs = search needs
-
-add-i : tie.Need-add-i Inv-loop μ-loop
-add-i c = search needs
+with-pair-requires : tie.Need-with-pair-requires Inv-loop μ-loop
+with-pair-requires c κs =
+    let w = told (c .before .before .before) (c .before .pair .given .1) in
+    search needs
 
 loop-less : tie.Need-loop-less Inv-loop μ-loop
-loop-less c = search needs
+loop-less c =
+    let w = told (c .before .before .before .before) (c .before .before .pair .given .1) in
+    omega arith
 
 loop-again : tie.Need-loop-again Inv-loop μ-loop
 loop-again c =
-    let l = c .before .before .before .before .loop in
-    let ws = now (c .before .before .before .before .before .before .args .words) in
-    let more : take (l .i + 1) ws ≡ take (l .i) ws ++ (getD ws (l .i) 0 ∷ []) = rw add-one
-    (take-suc ws (l .i) 0 (c .before .before .before .loop-test .taken)) in (
-      search needs,
-      c .before .counted .ensures .1,
-      rw (c .before .counted .ensures .0, l .inv .2, l .inv .3, more, counts-append (take (l .i) ws) (getD ws (l .i) 0)),
-      rw (c .next-met .ensures, l .inv .3, more, first-append (take (l .i) ws) (getD ws (l .i) 0)),
-    )
+    let turned = c .before .before .before .before in
+    goes-on (turned .before .loop .inv) (told turned (c .before .before .pair .given .1)) (c .with-pair .ensures)
+
+enum-known-word : tie.Need-enum-known-word Inv-loop μ-loop
+enum-known-word c = search needs
+
+with-single-requires : tie.Need-with-single-requires Inv-loop μ-loop
+with-single-requires c κs =
+    let w = told (c .before .before .before) (c .before .word .given .1) in
+    search needs
+
+loop-less-2 : tie.Need-loop-less-2 Inv-loop μ-loop
+loop-less-2 c =
+    let w = told (c .before .before .before .before) (c .before .before .word .given .1) in
+    omega arith
+
+loop-again-2 : tie.Need-loop-again-2 Inv-loop μ-loop
+loop-again-2 c =
+    let turned = c .before .before .before .before in
+    goes-on (turned .before .loop .inv) (told turned (c .before .before .word .given .1)) (c .with-single .ensures)
+
+enum-told : tie.Need-enum-told Inv-loop μ-loop
+enum-told c = search needs
 
 returns : tie.Need-returns Inv-loop μ-loop
-returns c =
-    let ws = now (c .before .before .before .args .words) in
-    c .before .loop .inv .2 ∙ ap countsOf (take-all (c .before .loop .i) ws (c .loop-test .left))
+returns c = ends (c .before .before .before .loop .inv) (told (c .before .before) (c .enum-told .given .1) .ended refl)
 
 pub counts-of-spec : {M : Type 1} → statement M
 counts-of-spec =
@@ -70,11 +81,14 @@ counts-of-spec =
     Inv-loop
     μ-loop
     loop-holds
-    mul-word
-    shared-slice-read-word
-    counted-requires
-    next-met-requires
-    add-i
+    turn-requires
+    enum-known-pair
+    with-pair-requires
     loop-less
     loop-again
+    enum-known-word
+    with-single-requires
+    loop-less-2
+    loop-again-2
+    enum-told
     returns)

@@ -1,0 +1,2 @@
+-- A level as a number.
+pub mod Levels

@@ -1,0 +1,3 @@
+-- The answer of one turn, and what is proved of every turn.
+pub mod OneTurn
+pub mod EveryTurn
