@@ -1,5 +1,6 @@
 -- Words in bytes, the lowest byte first.
-use Prim.Native.Nat.{ℕ, _+_, _*_, _/_}
+use Prim.Native.Nat.{ℕ, _+_, _-_, _*_, _/_, _%_, _^_, _≤_, _<_}
+use mathlib.Core.Path.{_≡_}
 use mathlib.Core.Bool.{cond}
 use mathlib.Core.List.{List, [], _∷_}
 use lib.ListN.{length, getD}
@@ -17,9 +18,20 @@ wordsOf (a ∷ b ∷ []) = []
 wordsOf (a ∷ b ∷ c ∷ []) = []
 wordsOf (a ∷ b ∷ c ∷ d ∷ rest) = wordBy a b c d ∷ wordsOf rest
 
+-- the word of the first four bytes
+abbrev pub firstWord : List ℕ → ℕ
+firstWord bytes = wordBy (getD bytes 0 0) (getD bytes 1 0) (getD bytes 2 0) (getD bytes 3 0)
+
 -- the word at an index, counted in words; 0 past the last whole word
 abbrev pub wordAt : List ℕ → ℕ → ℕ
 wordAt bytes i =
     cond (ltb i (length bytes / 4))
     (wordBy (getD bytes (4 * i) 0) (getD bytes (4 * i + 1) 0) (getD bytes (4 * i + 2) 0) (getD bytes (4 * i + 3) 0))
     0
+
+-- the number has the word before an index, and the one at the index from bit 32 on; it is 0 where they are not both there
+pub record PairTo (bytes : List ℕ) (i n : ℕ) : Type 0 where
+  pub first : 0 < i → i < length bytes / 4 → n % 2 ^ 32 ≡ wordAt bytes (i - 1)
+  pub second : 0 < i → i < length bytes / 4 → n / 2 ^ 32 ≡ wordAt bytes i
+  pub none : i ≡ 0 → n ≡ 0
+  pub past : length bytes / 4 ≤ i → n ≡ 0
