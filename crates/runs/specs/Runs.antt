@@ -1,8 +1,8 @@
 -- Runs of words that agree in their upper bits.
-use Prim.Native.Nat.{ℕ, suc, _+_, _-_, _/_, _^_, min}
+use Prim.Native.Nat.{ℕ, zero, suc, _+_, _-_, _*_, _/_, _^_, min}
 use mathlib.Core.List.{List, [], _∷_}
 use mathlib.Core.Bool.{Bool, cond}
-use lib.ListN.{drop}
+use lib.ListN.{getD, drop}
 use lib.Dec.{eqb}
 
 -- the word is `top` without its `shift` lowest bits
@@ -17,3 +17,8 @@ leading shift top (w ∷ ws) = cond (agrees shift top w) (suc (leading shift top
 -- where the run from an index on ends: the first index from there on that is not before `end`, has no word, or has one that does not agree
 abbrev pub runEnd : ℕ → ℕ → ℕ → List ℕ → ℕ → ℕ
 runEnd shift top end words from = from + min (end - from) (leading shift top (drop from words))
+
+-- a bit for each of n words from an index on that does not agree, the lowest for the first of them
+unfoldable pub marks : ℕ → ℕ → List ℕ → ℕ → ℕ → ℕ
+marks shift top words from zero = 0
+marks shift top words from (suc n) = marks shift top words from n + cond (agrees shift top (getD words (from + n) 0)) 0 1 * 2 ^ n

@@ -7,7 +7,7 @@ ghost use mathlib.Core.Bool.{true};
 ghost use Prim.Native.Nat.{_+_, _/_, _%_, _≤_, _<_, min};
 ghost use lib.ListN.{length, getD, drop};
 ghost use Rattle.words.specs.Words.{wordsOf};
-ghost use Rattle.runs.specs.Runs.{agrees, leading, runEnd};
+ghost use Rattle.runs.specs.Runs.{agrees, leading, runEnd, marks};
 
 // Whether the word at an index is `top` without its `shift` lowest bits.
 fn agrees(bytes: &[u8], at: usize, shift: u32, top: u32) -> bool
@@ -105,4 +105,48 @@ pub fn past_run(bytes: &[u8], from: usize, end: usize, shift: u32, top: u32) -> 
     }
     let at = past_eights(bytes, from + 16, stop, shift, top);
     past_singly(bytes, at, stop, shift, top)
+}
+
+// A bit for each of the 29 words from an index on that does not agree, the lowest for the first word. The words are those of a part whose
+// length is known, so the compiler sees that each is there, and tests four at once. The first, whose bit is 1, it tests by itself: hence
+// one word more than seven times four.
+fn half_marks(bytes: &[u8], from: usize, shift: u32, top: u32) -> u32
+    requires { ⌜ (from + 29 ≤ length (now bytes) / 4) × (shift < 32) ⌝ }
+    ensures { λ r. ⌜ r ≡ marks shift top (wordsOf (now (bytes .entry))) from 29 ⌝ }
+{
+    let start = 4 * from;
+    let end = start + 116;
+    let part = &bytes[start..end];
+    let mut marks: u32 = 0;
+    let mut count: u32 = 0;
+    while count < 29 {
+        if !agrees(part, count as usize, shift, top) {
+            marks = marks | 1 << count;
+        }
+        count += 1;
+    }
+    marks
+}
+
+// A bit for each of the 58 words from an index on that does not agree, where the bytes hold them all. Both halves are asked for 0 before
+// they are put together: else the compiler makes numbers of 64 bits of all bits, and tests two words at once.
+pub fn marks_from(bytes: &[u8], from: usize, shift: u32, top: u32) -> u64
+    ensures { λ r. ⌜ (let ws = wordsOf (now (bytes .entry)) in from + 58 ≤ length ws → r ≡ marks (shift % 32) top ws from 58) ⌝ }
+{
+    let count = bytes.len() / 4;
+    let shift = shift % 32;
+    if count < 58 {
+        return 0;
+    }
+    if count - 58 < from {
+        return 0;
+    }
+    let low = half_marks(bytes, from, shift, top);
+    let high = half_marks(bytes, from + 29, shift, top);
+    if low == 0 {
+        if high == 0 {
+            return 0;
+        }
+    }
+    low as u64 + high as u64 * 0x20000000
 }

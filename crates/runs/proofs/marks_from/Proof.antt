@@ -1,0 +1,75 @@
+-- Two halves, the second above the first.
+use Prim.Native.Nat.{_%_}
+use native.Mathlib.Omega.{arith}
+use borrow.Author.Needs.{needs}
+use denote.Ref.{now}
+use Rattle.words.specs.Words.{wordsOf}
+use Rattle.words.proofs.Listed.{words-length}
+use Rattle.runs.proofs.Marked.{marks-join}
+use Rattle.runs.proofs.marks_from.Statement.{statement}
+use Rattle.runs.proofs.marks_from.Tie as tie
+
+returns : tie.Need-returns
+returns c h = absurd (omega (arith, words-length (now (c .before .before .args .bytes))))
+
+returns-2 : tie.Need-returns-2
+returns-2 c h = absurd (omega (arith, words-length (now (c .before .before .before .args .bytes))))
+
+half-marks-requires : tie.Need-half-marks-requires
+half-marks-requires c κs = search needs
+
+add-half-marks : tie.Need-add-half-marks
+add-half-marks c = search needs
+
+half-marks-requires-2 : tie.Need-half-marks-requires-2
+half-marks-requires-2 c κs = search needs
+
+returns-3 : tie.Need-returns-3
+returns-3 c h =
+    let halves = c .before .before in
+    let a = halves .before .before .before .before .before .args in
+    omega (
+      arith,
+      halves .before .half-marks .ensures,
+      halves .half-marks2 .ensures,
+      marks-join (a .shift % 32) (a .top) (wordsOf (now (a .bytes))) (a .from) 29 29,
+    )
+
+cast-result : tie.Need-cast-result
+cast-result c = search needs
+
+cast-result-2 : tie.Need-cast-result-2
+cast-result-2 c = search needs
+
+mul-result : tie.Need-mul-result
+mul-result c = search needs
+
+add-result : tie.Need-add-result
+add-result c = search needs
+
+returns-4 : tie.Need-returns-4
+returns-4 c h =
+    let halves = c .before in
+    let a = halves .before .before .before .before .before .args in
+    omega (
+      arith,
+      halves .before .half-marks .ensures,
+      halves .half-marks2 .ensures,
+      marks-join (a .shift % 32) (a .top) (wordsOf (now (a .bytes))) (a .from) 29 29,
+    )
+
+pub marks-from-spec : {M : Type 1} → statement M
+marks-from-spec =
+    tie.close
+    (tie.spec
+    returns
+    returns-2
+    half-marks-requires
+    add-half-marks
+    half-marks-requires-2
+    returns-3
+    cast-result
+    cast-result-2
+    mul-result
+    add-result
+    returns-4)
