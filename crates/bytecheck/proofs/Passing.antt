@@ -14,17 +14,17 @@ use Rattle.config.specs.declared.Timing.{Timing}
 use Rattle.command.specs.Pins.{high}
 use Rattle.command.specs.Pairs.{rda}
 use Rattle.command.specs.Address.{bankOf}
+use Rattle.reading.specs.Reading.{laneReserved}
 use Rattle.stamps.specs.Stamps.{isPoweredDown, isExiting}
-use Rattle.rules.specs.Breaches.{near, deadline, overdue, mustStayHigh, earlyAt, closingBreach}
+use Rattle.rules.specs.Breaches.{near, bankStamp, tooClose, deadline, overdue, mustStayHigh, earlyAt, closingBreach}
 use Rattle.rules.specs.Verdict.{Judgement}
 use Rattle.stamps.specs.declared.Timestamps.{Timestamps}
 use Rattle.breaches.proofs.ByKind.{at-lal}
 use Rattle.breaches.proofs.Sums.{no-more}
 use Rattle.rules.proofs.Words.{run, run-passes}
 use Rattle.bytecheck.specs.Passed.{Passes, Passed, none, more}
-use Rattle.bytecheck.specs.Quick.{Settled, Clear, Quiet}
+use Rattle.bytecheck.specs.Quick.{Settled, Quiet}
 use Rattle.bytecheck.specs.declared.place.Place.{Place}
-use Rattle.bytecheck.specs.declared.quick.Recent.{Recent}
 
 -- an event that is far enough back is not near
 pub far : (k c n : ℕ) → c + n ≤ k → near k c n ≡ false
@@ -35,10 +35,6 @@ pub early-kept : (t : Timing) (s : Timestamps) (k first w : ℕ) → w / 2 ^ 19 
     → earlyAt t s k first w ≡ 0
 early-kept t s k first w e due = rw (lt-leb (2 ^ 20) w (omega arith), e, due)
 
--- what rules 7 and 8 compare a pair of this bank with
-abbrev recentOf : Timestamps → ℕ → Recent
-recentOf s bank = record { bank = getD (s .banks) bank 0; read = s .read; write = s .write }
-
 -- a word with PD and CS high, and no bit above
 high-lal : (w : ℕ) → w / 2 ^ 18 ≡ 3 → high 18 w ≡ true
 high-lal w e = rw e
@@ -46,14 +42,21 @@ high-lal w e = rw e
 driven : (w : ℕ) → w / 2 ^ 18 ≡ 3 → w / 2 ^ 19 ≡ 1
 driven w e = omega arith
 
--- a LAL word that keeps rules 5, 7 and 8, where rules 6, 9 and 10 are kept
-lal-kept : (t : Timing) (s : Timestamps) (k first w : ℕ) {bank from : ℕ} → bank ≡ bankOf (t .four) first → Settled t s k
-    → Clear t (recentOf s bank) from k first w → closingBreach t s k first w ≡ 0
-lal-kept t s k first w of-bank settled clear =
+-- the LAL word of a read or write that keeps every rule from 5 on
+pub record Kept (t : Timing) (s : Timestamps) (k first w : ℕ) : Type 0 where
+  pub driven : w / 2 ^ 18 ≡ 3
+  pub unreserved : laneReserved t first w ≡ false
+  pub rested : near k (bankStamp (t .four) s first) (t .rc) ≡ false
+  pub spaced : tooClose (rda first) true t (s .read) (s .write) k ≡ false
+  pub settled : Settled t s k
+
+lal-kept : (t : Timing) (s : Timestamps) (k first w : ℕ) → Kept t s k first w → closingBreach t s k first w ≡ 0
+lal-kept t s k first w kept =
+    let settled = kept .settled in
     sym
-    (at-lal t s k first w (high-lal w (clear .driven)) (sym (clear .unreserved)) (sym (settled .ready))
-    (rw (of-bank, ← no-more (t .rc)) at (sym (clear .rested)))
-    (sym (clear .spaced))
+    (at-lal t s k first w (high-lal w (kept .driven)) (sym (kept .unreserved)) (sym (settled .ready))
+    (rw (← no-more (t .rc)) at (sym (kept .rested)))
+    (sym (kept .spaced))
     (rw (← no-more (t .rsc)) at (sym (settled .afterMode)))
     (rw (← no-more (t .refc)) at (sym (settled .afterRefresh))))
 
@@ -113,17 +116,16 @@ module _ (t : Timing) (ws : List ℕ) (p : Place) {w : ℕ} (inside : p .clock <
       }
 
   -- the LAL word of a read or write
-  pub access-passes : high 18 (p .met) ≡ false → {bank from : ℕ} → bank ≡ bankOf (t .four) (p .met) → Settled t (p .stamps) (p .clock)
-      → Clear t (recentOf (p .stamps) bank) from (p .clock) (p .met) w
+  pub access-passes : high 18 (p .met) ≡ false → {bank : ℕ} → bank ≡ bankOf (t .four) (p .met) → Kept t (p .stamps) (p .clock) (p .met) w
       → {read write : ℕ} → read ≡ cond {A = ℕ} (rda (p .met)) (p .clock) (p .stamps .read)
       → write ≡ cond {A = ℕ} (rda (p .met)) (p .stamps .write) (p .clock) → Passes t ws p (accessed bank p read write)
-  access-passes opened of-bank settled clear read write =
-      let early = early-kept t (p .stamps) (p .clock) (p .met) w (driven w (clear .driven)) due in
-      let lal = lal-kept t (p .stamps) (p .clock) (p .met) w of-bank settled clear in
+  access-passes opened of-bank kept read write =
+      let early = early-kept t (p .stamps) (p .clock) (p .met) w (driven w (kept .driven)) due in
+      let lal = lal-kept t (p .stamps) (p .clock) (p .met) w kept in
       record {
         inside = inside;
         sound = rw (← word, early, opened, lal);
-        leads = rw (of-bank, read, write, ← word, opened, high-lal w (clear .driven));
+        leads = rw (of-bank, read, write, ← word, opened, high-lal w (kept .driven));
       }
 
 -- a DESL word where nothing is met, and one with PD low in sleep

@@ -2,3 +2,4 @@
 -- `check_bytes` cites `checkBytesOf` of `rules`.
 pub mod Passed
 pub mod Quick
+pub mod Pairs

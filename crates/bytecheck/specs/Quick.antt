@@ -2,18 +2,16 @@
 use Prim.Native.Nat.{ℕ, _+_, _/_, _^_, _≤_, _<_}
 use mathlib.Core.List.{List}
 use mathlib.Core.Path.{_≡_}
-use mathlib.Core.Bool.{true, false}
+use mathlib.Core.Bool.{false}
 use lib.ListN.{getD}
 use Rattle.stamps.specs.Stamps.{asleep}
 use Rattle.basics.specs.Numbers.{limit}
 use Rattle.config.specs.declared.Timing.{Timing}
-use Rattle.command.specs.Pairs.{rda, desl}
-use Rattle.reading.specs.Reading.{laneReserved}
-use Rattle.rules.specs.Breaches.{near, deadline, overdue, notReady, tooClose, wordBreach}
+use Rattle.command.specs.Pairs.{desl}
+use Rattle.rules.specs.Breaches.{near, deadline, overdue, notReady, wordBreach}
 use Rattle.stamps.specs.declared.Timestamps.{Timestamps}
 use Rattle.bytecheck.specs.Passed.{next, Passed}
 use Rattle.bytecheck.specs.declared.place.Place.{Place}
-use Rattle.bytecheck.specs.declared.quick.Recent.{Recent}
 
 -- a read or write that closes at k breaches none of rules 6, 9 and 10
 pub record Settled (t : Timing) (s : Timestamps) (k : ℕ) : Type 0 where
@@ -24,14 +22,6 @@ pub record Settled (t : Timing) (s : Timestamps) (k : ℕ) : Type 0 where
 -- at every clock of a trace from this one on, a read or write that closes there breaches none of rules 6, 9 and 10
 abbrev pub SettledFrom : Timing → Timestamps → ℕ → Type 0
 SettledFrom t s from = (k : ℕ) → k ≤ limit → from ≤ k → Settled t s k
-
--- the word at clock k is a LAL word that keeps rules 1, 2, 5, 7 and 8, and not before the clock `settled`
-pub record Clear (t : Timing) (recent : Recent) (settled k first word : ℕ) : Type 0 where
-  pub driven : word / 2 ^ 18 ≡ 3
-  pub late : settled ≤ k
-  pub unreserved : laneReserved t first word ≡ false
-  pub rested : near k (recent .bank) (t .rc) ≡ false
-  pub spaced : tooClose (rda first) true t (recent .read) (recent .write) k ≡ false
 
 -- rule 3 is kept before `end`
 abbrev pub InTime : Timing → Timestamps → ℕ → Type 0

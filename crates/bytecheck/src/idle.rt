@@ -1,4 +1,5 @@
 // Words that breach nothing and change nothing: DESL, a whole sleep, and in sleep those with PD low.
+use crate::pairs::BELOW_CS;
 use crate::quick::in_time;
 use breaches::must_stay_high;
 use command::pins::CS;
@@ -9,9 +10,7 @@ ghost use lib.ListN.{length};
 ghost use Rattle.words.specs.Words.{wordsOf};
 ghost use Rattle.bytecheck.specs.Quick.{RunPassed, IdlePassed, LowPassed};
 
-// How many bits stand below the pins CS and PD.
-const BELOW_CS: u32 = 18;
-
+// How many bits stand below the pin PD.
 const BELOW_PD: u32 = 19;
 
 // Passes over the words from a clock on that stand before `end` and are `top` without their `shift` lowest bits.

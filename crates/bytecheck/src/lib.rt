@@ -1,5 +1,6 @@
 // The whole check of a trace that is handed over as bytes.
 mod idle;
+mod pairs;
 mod place;
 mod quick;
 mod skim;

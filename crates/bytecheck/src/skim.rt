@@ -1,66 +1,67 @@
 // Skimming: a check goes on as long as words surely breach nothing.
 use crate::idle::past_idle;
 use crate::idle::past_low;
+use crate::pairs::Track;
+use crate::pairs::past_gaps;
+use crate::pairs::past_pairs;
 use crate::place::Place;
-use crate::quick::Recent;
-use crate::quick::clear;
+use crate::quick::free_from;
 use crate::quick::in_time;
-use crate::quick::settled_from;
-use basics::choose;
-use command::address::bank;
-use command::pins::CS;
-use command::pins::FN;
-use command::pins::high;
 use config::Timing;
 use stamps::DESL;
 use stamps::POWERED_DOWN;
 use stamps::Timestamps;
+ghost use mathlib.Core.Path.{_≡_};
 ghost use Prim.Native.Nat.{_≤_, _/_};
 ghost use lib.ListN.{length};
 ghost use Rattle.words.specs.Words.{wordsOf};
 ghost use Rattle.bytecheck.specs.Passed.{Passed};
 ghost use Rattle.bytecheck.specs.Quick.{idleAt};
+ghost use Rattle.bytecheck.specs.Pairs.{stampsOf};
 
-// From a clock on where nothing is met: DESL, sleeps, reads and writes. Reads and writes have a loop of their own, so that nothing of the
-// tests of a sleep is computed on their path. Their timestamps are set in place: `stamps.after` would copy those of all eight banks at
-// each pair. Neither `end` nor `settled` changes by a read or write.
+// The timestamps of a track, with the last read and write.
+fn current(track: Track) -> Timestamps
+    ensures { λ r. ⌜ r ≡ stampsOf track ⌝ }
+{
+    let stamps = track.stamps;
+    let accesses = track.accesses;
+    let banks = stamps.banks;
+    let refs = stamps.refs;
+    Timestamps {
+        extended: stamps.extended,
+        regular: stamps.regular,
+        mode: stamps.mode,
+        read: accesses[1],
+        write: accesses[0],
+        banks,
+        refs,
+    }
+}
+
+// From a clock on where nothing is met: reads and writes, DESL, sleeps. Neither the end nor the clock from which on reads and writes are
+// allowed changes by these. A turn that passes nothing behind the last gap ends it.
 fn skim(timing: Timing, bytes: &[u8], from: Timestamps, start: u32) -> Place
     requires { ⌜ length (now bytes) / 4 ≤ 16777216 ⌝ }
     ensures { λ r. ⌜ Passed timing (wordsOf (now (bytes .entry))) (idleAt start from) r ⌝ }
 {
-    let four = timing.figures().four;
     let end = in_time(timing, from, (bytes.len() / 4) as u64);
-    let settled = settled_from(timing, from);
-    let mut stamps = from;
-    let mut clock = start;
+    let mut track = Track {
+        clock: start as u64,
+        last: free_from(timing, from),
+        row: 4,
+        accesses: [from.write, from.read],
+        stamps: from,
+    };
     loop {
-        while clock as u64 + 1 < end {
-            let first = words::word_at(bytes, clock as usize);
-            if first / CS != 2 {
-                break;
-            }
-            let closing = clock + 1;
-            let word = words::word_at(bytes, closing as usize);
-            let bank = bank(four, first) as usize;
-            let recent = Recent {
-                bank: stamps.banks[bank],
-                read: stamps.read,
-                write: stamps.write,
-            };
-            if !clear(timing, recent, settled, closing, first, word) {
-                return Place::at(closing, first, stamps);
-            }
-            let rda = high(first, FN);
-            stamps.banks[bank] = closing;
-            stamps.read = choose(rda, closing, stamps.read);
-            stamps.write = choose(rda, stamps.write, closing);
-            clock = closing + 1;
+        track = past_gaps(timing, bytes, track, end);
+        let marked = track.clock;
+        track = past_pairs(timing, bytes, track, end);
+        let stamps = current(track);
+        let after = past_idle(timing, bytes, stamps, track.clock as u32, end);
+        if after as u64 == marked {
+            return Place::at(after, DESL, stamps);
         }
-        let after = past_idle(timing, bytes, stamps, clock, end);
-        if after == clock {
-            return Place::at(clock, DESL, stamps);
-        }
-        clock = after;
+        track.clock = after as u64;
     }
 }
 

@@ -15,7 +15,7 @@ array-read-if1 : tie.Need-array-read-if1
 array-read-if1 c = search needs
 
 returns : tie.Need-returns
-returns c k h from = absurd (omega arith)
+returns c = (λ k h from. absurd (omega arith), omega arith)
 
 plus-requires : tie.Need-plus-requires
 plus-requires c κs = search needs
@@ -36,18 +36,30 @@ greater-requires-2 : tie.Need-greater-requires-2
 greater-requires-2 c κs = search needs
 
 returns-2 : tie.Need-returns-2
-returns-2 c k h from =
+returns-2 c =
     let calm = c .before .before in
     let started = calm .before .before .before in
     let called = started .before .before .before .before in
     let a = called .before .args in
     let s = a .stamps in
     let t = a .timing in
-    record {
-      ready = rw (started .if1 .left) (le-ltb k (s .extended + 201) (omega arith));
-      afterMode = far k (s .mode) (t .rsc) (omega (arith, rw (called .figures .ensures) at (calm .before .before .plus .ensures)));
-      afterRefresh = far k (getD (s .refs) 0 0) (t .refc) (omega (arith, rw (called .figures .ensures) at (calm .before .plus2 .ensures)));
-    }
+    let latest = c .greater2 .ensures in
+    let after-mode = rw (called .figures .ensures) at (calm .before .before .plus .ensures .0) in
+    let after-refresh = rw (called .figures .ensures) at (calm .before .plus2 .ensures .0) in (
+      λ k h from.
+          record {
+            ready = rw (started .if1 .left) (le-ltb k (s .extended + 201) (omega arith));
+            afterMode = far k (s .mode) (t .rsc) (omega arith);
+            afterRefresh = far k (getD (s .refs) 0 0) (t .refc) (omega arith);
+          },
+      omega (
+        arith,
+        calm .before .before .plus .ensures .1,
+        calm .before .plus2 .ensures .1,
+        c .before .plus3 .ensures .1,
+        calm .greater .ensures,
+      ),
+    )
 
 pub settled-from-spec : {M : Type 1} → statement M
 settled-from-spec =
