@@ -37,7 +37,7 @@ const RUNS: [(Run, &str); 3] = [
 ];
 
 /// Each trace in breach comes once more with so many words behind it as fill the block that it ends in.
-const BEHIND: u32 = 32;
+const BEHIND: u32 = 64;
 const WITH_WORDS_BEHIND: &str = "a run and a breach with words behind it";
 
 /// The cases in which a refresh stands before the run, and behind it, within REFC or not, what may stand
