@@ -6,12 +6,12 @@ use mathlib.Core.List.{List}
 use native.Mathlib.Omega.{arith}
 use native.Mathlib.Nat.{pow-suc, add-mul, mul-assoc, mul-comm, add-zero, add-suc, div-div-eq-div-mul, pow-succ'}
 use native.Mathlib.Numerals.{add-one}
-use borrow.Author.Tests.{eqb-true}
-use lib.ListN.{getD}
+use borrow.Author.Tests.{eqb-true, le-leb, lt-leb}
+use lib.ListN.{length, getD}
 use lib.Pow.{pow-add, shr-le}
 use lib.Bits.{bitOr, or-shifted-r}
 use lib.Count.{trailingZeros, under}
-use Rattle.runs.specs.Runs.{agrees, marks}
+use Rattle.runs.specs.Runs.{agrees, marks, marksFrom}
 
 module _ (shift top : ℕ) (ws : List ℕ) where
   -- the mark of a word
@@ -43,6 +43,13 @@ module _ (shift top : ℕ) (ws : List ℕ) where
       by zero h below = rw (pow-suc 2 n) (omega arith)
       by (suc zero) h below = rw (pow-suc 2 n) (omega arith)
       by (suc (suc b)) h below = absurd (omega arith)
+
+  -- of 58 words, where there are so many and where there are not
+  pub marks-there : (from : ℕ) → from + 58 ≤ length ws → marksFrom shift top ws from ≡ marks shift top ws from 58
+  marks-there from h = rw (le-leb (from + 58) (length ws) h)
+
+  pub marks-missing : (from : ℕ) → length ws < from + 58 → marksFrom shift top ws from ≡ 0
+  marks-missing from h = rw (lt-leb (from + 58) (length ws) h)
 
   -- by one word more
   module _ (from n : ℕ) {m : ℕ} {r : Bool} (is : m ≡ marks shift top ws from n) (here : r ≡ agrees shift top (getD ws (from + n) 0)) where

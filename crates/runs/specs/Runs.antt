@@ -2,8 +2,8 @@
 use Prim.Native.Nat.{ℕ, zero, suc, _+_, _-_, _*_, _/_, _^_, min}
 use mathlib.Core.List.{List, [], _∷_}
 use mathlib.Core.Bool.{Bool, cond}
-use lib.ListN.{getD, drop}
-use lib.Dec.{eqb}
+use lib.ListN.{length, getD, drop}
+use lib.Dec.{eqb, leb}
 
 -- the word is `top` without its `shift` lowest bits
 abbrev pub agrees : ℕ → ℕ → ℕ → Bool
@@ -22,3 +22,7 @@ runEnd shift top end words from = from + min (end - from) (leading shift top (dr
 unfoldable pub marks : ℕ → ℕ → List ℕ → ℕ → ℕ → ℕ
 marks shift top words from zero = 0
 marks shift top words from (suc n) = marks shift top words from n + cond (agrees shift top (getD words (from + n) 0)) 0 1 * 2 ^ n
+
+-- the same of 58 words where there are so many from the index on, and otherwise 0
+abbrev pub marksFrom : ℕ → ℕ → List ℕ → ℕ → ℕ
+marksFrom shift top words from = cond (leb (from + 58) (length words)) (marks shift top words from 58) 0

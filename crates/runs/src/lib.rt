@@ -7,7 +7,7 @@ ghost use mathlib.Core.Bool.{true};
 ghost use Prim.Native.Nat.{_+_, _/_, _%_, _≤_, _<_, min};
 ghost use lib.ListN.{length, getD, drop};
 ghost use Rattle.words.specs.Words.{wordsOf};
-ghost use Rattle.runs.specs.Runs.{agrees, leading, runEnd, marks};
+ghost use Rattle.runs.specs.Runs.{agrees, leading, runEnd, marks, marksFrom};
 
 // Whether the word at an index is `top` without its `shift` lowest bits.
 fn agrees(bytes: &[u8], at: usize, shift: u32, top: u32) -> bool
@@ -128,10 +128,10 @@ fn half_marks(bytes: &[u8], from: usize, shift: u32, top: u32) -> u32
     marks
 }
 
-// A bit for each of the 58 words from an index on that does not agree, where the bytes hold them all. Both halves are asked for 0 before
-// they are put together: else the compiler makes numbers of 64 bits of all bits, and tests two words at once.
+// A bit for each of the 58 words from an index on that does not agree, where the bytes hold them all, and otherwise 0. Both halves are
+// asked for 0 before they are put together: else the compiler makes numbers of 64 bits of all bits, and tests two words at once.
 pub fn marks_from(bytes: &[u8], from: usize, shift: u32, top: u32) -> u64
-    ensures { λ r. ⌜ (let ws = wordsOf (now (bytes .entry)) in from + 58 ≤ length ws → r ≡ marks (shift % 32) top ws from 58) ⌝ }
+    ensures { λ r. ⌜ r ≡ marksFrom (shift % 32) top (wordsOf (now (bytes .entry))) from ⌝ }
 {
     let count = bytes.len() / 4;
     let shift = shift % 32;

@@ -1,13 +1,15 @@
 -- The word at an index is that place of the list of words.
 use Prim.Native.Nat.{ℕ, zero, suc, _+_, _-_, _*_, _/_, _%_, _^_, _≤_, _<_}
-use mathlib.Core.Path.{_≡_, refl, sym, _∙_, ap}
+use mathlib.Core.Path.{_≡_, refl, sym, _∙_, ap, ap₂}
+use mathlib.Core.Bool.{Bool, true, false, cond, _&&_}
 use mathlib.Core.List.{List, [], _∷_}
 use native.Mathlib.Omega.{arith}
-use borrow.Author.Tests.{lt-ltb}
+use borrow.Author.Tests.{lt-ltb, ltb-true}
+use lib.Dec.{ltb}
 use lib.ListN.{length, getD, take, drop, length-take, length-drop}
 use lib.Seq.{take-all, getD-take, getD-drop, drop-drop}
 use native.Mathlib.Nat.{add-zero}
-use Rattle.words.specs.Words.{wordBy, wordsOf, firstWord, wordAt, PairTo}
+use Rattle.words.specs.Words.{wordBy, wordsOf, firstWord, wordAt, pairTo, PairTo}
 
 pub words-length : (bytes : List ℕ) → length (wordsOf bytes) ≡ length bytes / 4
 words-length [] = refl
@@ -59,7 +61,20 @@ second-of-part bytes i pos h =
     let left : length (drop (4 * (i - 1)) bytes) - 4 ≡ length bytes - 4 * i = omega (arith, length-drop (4 * (i - 1)) bytes) in
     rw (all, left, drop-drop 4 (4 * (i - 1)) bytes, at) (first-of-part bytes i h)
 
--- the two words of a pair
+-- the two words of a pair, where they are both there, and 0 where they are not
+pub pair-there : (bytes : List ℕ) (i : ℕ) → 0 < i → i < length bytes / 4 → pairTo bytes i ≡ wordAt bytes (i - 1) + wordAt bytes i * 2 ^ 32
+pair-there bytes i pos h =
+    ap₂ (λ b c. cond (b && c) (wordAt bytes (i - 1) + wordAt bytes i * 2 ^ 32) 0) (lt-ltb 0 i pos) (lt-ltb i (length bytes / 4) h)
+
+pub pair-none : (bytes : List ℕ) (i : ℕ) → (0 < i → i < length bytes / 4 → ⊥) → pairTo bytes i ≡ 0
+pair-none bytes i none = by (ltb 0 i) refl (ltb i (length bytes / 4)) refl
+  where
+    by : (b : Bool) → ltb 0 i ≡ b → (c : Bool) → ltb i (length bytes / 4) ≡ c
+        → cond (b && c) (wordAt bytes (i - 1) + wordAt bytes i * 2 ^ 32) 0 ≡ 0
+    by true e true f = absurd (none (ltb-true 0 i e) (ltb-true i (length bytes / 4) f))
+    by true e false f = refl
+    by false e c f = refl
+
 pub pair-listed : (bytes : List ℕ) (i : ℕ) {n : ℕ} → PairTo bytes (i + 1) n → i + 1 < length bytes / 4
     → (n % 2 ^ 32 ≡ getD (wordsOf bytes) i 0) × (n / 2 ^ 32 ≡ getD (wordsOf bytes) (i + 1) 0)
 pair-listed bytes i pair h = (

@@ -1,7 +1,7 @@
 -- Words in bytes, the lowest byte first.
-use Prim.Native.Nat.{ℕ, _+_, _-_, _*_, _/_, _%_, _^_, _≤_, _<_}
+use Prim.Native.Nat.{ℕ, _+_, _-_, _*_, _/_, _%_, _^_, _<_}
 use mathlib.Core.Path.{_≡_}
-use mathlib.Core.Bool.{cond}
+use mathlib.Core.Bool.{cond, _&&_}
 use mathlib.Core.List.{List, [], _∷_}
 use lib.ListN.{length, getD}
 use lib.Dec.{ltb}
@@ -29,9 +29,12 @@ wordAt bytes i =
     (wordBy (getD bytes (4 * i) 0) (getD bytes (4 * i + 1) 0) (getD bytes (4 * i + 2) 0) (getD bytes (4 * i + 3) 0))
     0
 
--- the number has the word before an index, and the one at the index from bit 32 on; it is 0 where they are not both there
+-- the word before an index and, from bit 32 on, the one at the index; 0 where they are not both there
+abbrev pub pairTo : List ℕ → ℕ → ℕ
+pairTo bytes i = cond (ltb 0 i && ltb i (length bytes / 4)) (wordAt bytes (i - 1) + wordAt bytes i * 2 ^ 32) 0
+
+-- the number is that and, since a byte is below 256, each of the two words can be told from it
 pub record PairTo (bytes : List ℕ) (i n : ℕ) : Type 0 where
+  pub number : n ≡ pairTo bytes i
   pub first : 0 < i → i < length bytes / 4 → n % 2 ^ 32 ≡ wordAt bytes (i - 1)
   pub second : 0 < i → i < length bytes / 4 → n / 2 ^ 32 ≡ wordAt bytes i
-  pub none : i ≡ 0 → n ≡ 0
-  pub past : length bytes / 4 ≤ i → n ≡ 0

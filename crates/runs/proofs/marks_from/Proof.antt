@@ -1,19 +1,24 @@
 -- Two halves, the second above the first.
 use Prim.Native.Nat.{_%_}
+use mathlib.Core.Path.{sym}
 use native.Mathlib.Omega.{arith}
 use borrow.Author.Needs.{needs}
 use denote.Ref.{now}
 use Rattle.words.specs.Words.{wordsOf}
 use Rattle.words.proofs.Listed.{words-length}
-use Rattle.runs.proofs.Marked.{marks-join}
+use Rattle.runs.proofs.Marked.{marks-join, marks-there, marks-missing}
 use Rattle.runs.proofs.marks_from.Statement.{statement}
 use Rattle.runs.proofs.marks_from.Tie as tie
 
 returns : tie.Need-returns
-returns c h = absurd (omega (arith, words-length (now (c .before .before .args .bytes))))
+returns c =
+    let a = c .before .before .args in
+    sym (marks-missing (a .shift % 32) (a .top) (wordsOf (now (a .bytes))) (a .from) (omega (arith, words-length (now (a .bytes)))))
 
 returns-2 : tie.Need-returns-2
-returns-2 c h = absurd (omega (arith, words-length (now (c .before .before .before .args .bytes))))
+returns-2 c =
+    let a = c .before .before .before .args in
+    sym (marks-missing (a .shift % 32) (a .top) (wordsOf (now (a .bytes))) (a .from) (omega (arith, words-length (now (a .bytes)))))
 
 half-marks-requires : tie.Need-half-marks-requires
 half-marks-requires c κs = search needs
@@ -25,11 +30,13 @@ half-marks-requires-2 : tie.Need-half-marks-requires-2
 half-marks-requires-2 c κs = search needs
 
 returns-3 : tie.Need-returns-3
-returns-3 c h =
+returns-3 c =
     let halves = c .before .before in
     let a = halves .before .before .before .before .before .args in
+    let there = marks-there (a .shift % 32) (a .top) (wordsOf (now (a .bytes))) (a .from) (omega (arith, words-length (now (a .bytes)))) in
     omega (
       arith,
+      there,
       halves .before .half-marks .ensures,
       halves .half-marks2 .ensures,
       marks-join (a .shift % 32) (a .top) (wordsOf (now (a .bytes))) (a .from) 29 29,
@@ -48,11 +55,13 @@ add-result : tie.Need-add-result
 add-result c = search needs
 
 returns-4 : tie.Need-returns-4
-returns-4 c h =
+returns-4 c =
     let halves = c .before in
     let a = halves .before .before .before .before .before .args in
+    let there = marks-there (a .shift % 32) (a .top) (wordsOf (now (a .bytes))) (a .from) (omega (arith, words-length (now (a .bytes)))) in
     omega (
       arith,
+      there,
       halves .before .half-marks .ensures,
       halves .half-marks2 .ensures,
       marks-join (a .shift % 32) (a .top) (wordsOf (now (a .bytes))) (a .from) 29 29,

@@ -2,18 +2,30 @@
 use native.Mathlib.Omega.{arith}
 use borrow.Author.Needs.{needs}
 use Prim.Native.Nat.{_-_, _/_, _^_, _<_}
-use mathlib.Core.Path.{_≡_, refl, _∙_}
+use mathlib.Core.Path.{_≡_, sym, _∙_}
 use lib.ListN.{length}
 use denote.Ref.{now}
-use Rattle.words.proofs.Listed.{first-of-part, second-of-part}
+use Rattle.words.proofs.Listed.{first-of-part, second-of-part, pair-none, pair-there}
 use Rattle.words.proofs.pair_to.Statement.{statement}
 use Rattle.words.proofs.pair_to.Tie as tie
 
 returns : tie.Need-returns
-returns c = record { first = λ pos h. absurd (omega arith); second = λ pos h. absurd (omega arith); none = λ e. refl; past = λ e. refl }
+returns c =
+    let a = c .before .before .args in
+    record {
+      number = sym (pair-none (now (a .bytes)) (a .index) (λ pos h. omega arith));
+      first = λ pos h. absurd (omega arith);
+      second = λ pos h. absurd (omega arith);
+    }
 
 returns-2 : tie.Need-returns-2
-returns-2 c = record { first = λ pos h. absurd (omega arith); second = λ pos h. absurd (omega arith); none = λ e. refl; past = λ e. refl }
+returns-2 c =
+    let a = c .before .before .before .args in
+    record {
+      number = sym (pair-none (now (a .bytes)) (a .index) (λ pos h. omega arith));
+      first = λ pos h. absurd (omega arith);
+      second = λ pos h. absurd (omega arith);
+    }
 
 sub-at : tie.Need-sub-at
 sub-at c = search needs
@@ -67,10 +79,9 @@ returns-3 c =
     let second = c .first-word2 .ensures ∙ second-of-part (now (a .bytes)) (a .index) (omega arith) inside in
     let small : c .before .first-word .result < 2 ^ 32 = search needs in
     record {
+      number = omega (arith, first, second, pair-there (now (a .bytes)) (a .index) (omega arith) inside);
       first = λ pos h. omega (arith, first);
       second = λ pos h. omega (arith, second);
-      none = λ e. absurd (nonzero e);
-      past = λ e. absurd (omega arith);
     }
 
 pub pair-to-spec : {M : Type 1} → statement M

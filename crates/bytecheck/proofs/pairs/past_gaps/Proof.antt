@@ -12,7 +12,7 @@ use Rattle.command.specs.Address.{bankOf}
 use Rattle.words.specs.Words.{wordsOf}
 use Rattle.words.proofs.Listed.{words-length, pair-listed}
 use Rattle.runs.specs.Runs.{marks}
-use Rattle.runs.proofs.Marked.{marks-none}
+use Rattle.runs.proofs.Marked.{marks-there, marks-none}
 use Rattle.bytecheck.specs.Passed.{none}
 use Rattle.bytecheck.proofs.Passing.{passed-on}
 use Rattle.bytecheck.proofs.Access.{goes-on, goes-over}
@@ -43,11 +43,12 @@ loop2-holds c =
     let bytes = now (start .args .bytes) in
     let short : turn .loop .clock + 58 < start .args .end = c .before .before .loop-test .taken in
     let listed : start .args .end ≤ length bytes / 4 = start .pre .1 in
+    let there : turn .loop .clock + 58 ≤ length (wordsOf bytes) = rw (words-length bytes) (omega arith) in
     let size : turn .loop .clock + 58 - turn .loop .clock ≡ 58 = omega arith in (
       record {
         before = omega arith;
         since = omega arith;
-        marked = rw size (c .before .marks-from .ensures (rw (words-length bytes) (omega arith)));
+        marked = rw size (c .before .marks-from .ensures ∙ marks-there 18 3 (wordsOf bytes) (turn .loop .clock) there);
       },
       record { tracked = turn .loop .inv .tracked; passed = none },
     )
