@@ -38,8 +38,9 @@ fn current(track: Track) -> Timestamps
     }
 }
 
-// From a clock on where nothing is met: reads and writes, DESL, sleeps. Neither the end nor the clock from which on reads and writes are
-// allowed changes by these. A turn that passes nothing behind the last gap ends it.
+// From a clock on where nothing is met: DESL, sleeps, reads and writes. Neither the end nor the clock from which on reads and writes are
+// allowed changes by these. DESL comes first, since a long run of it often stands behind a refresh; where it ends pairs are tried, and where
+// they were tried before and nothing is passed since, the skim ends.
 fn skim(timing: Timing, bytes: &[u8], from: Timestamps, start: u32) -> Place
     requires { ⌜ length (now bytes) / 4 ≤ 16777216 ⌝ }
     ensures { λ r. ⌜ Passed timing (wordsOf (now (bytes .entry))) (idleAt start from) r ⌝ }
@@ -52,16 +53,17 @@ fn skim(timing: Timing, bytes: &[u8], from: Timestamps, start: u32) -> Place
         accesses: [from.write, from.read],
         stamps: from,
     };
+    let mut tried = false;
     loop {
-        track = past_gaps(timing, bytes, track, end);
-        let marked = track.clock;
-        track = past_pairs(timing, bytes, track, end);
         let stamps = current(track);
         let after = past_idle(timing, bytes, stamps, track.clock as u32, end);
-        if after as u64 == marked {
+        if tried & (after as u64 == track.clock) {
             return Place::at(after, DESL, stamps);
         }
         track.clock = after as u64;
+        track = past_gaps(timing, bytes, track, end);
+        track = past_pairs(timing, bytes, track, end);
+        tried = true;
     }
 }
 

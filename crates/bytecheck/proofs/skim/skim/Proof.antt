@@ -1,12 +1,16 @@
--- Each turn passes reads and writes, with gaps and without, and then DESL words or a sleep.
-use Prim.Native.Nat.{ℕ, _-_, _/_, _<_}
-use mathlib.Core.Path.{refl}
+-- Each turn passes DESL words or a sleep, and then reads and writes, with gaps and without. Only the first may pass nothing.
+use Prim.Native.Nat.{ℕ, _+_, _-_, _*_, _/_, _≤_, _<_}
+use mathlib.Core.Path.{_≡_, refl}
+use mathlib.Core.Bool.{Bool, true, false, not, _&&_}
 use mathlib.Core.List.{List}
 use native.Mathlib.Omega.{arith}
 use borrow.Author.Needs.{needs}
+use borrow.Author.Tests.{eqb-false}
+use lib.Dec.{eqb}
 use lib.ListN.{length}
 use denote.Ref.{now}
 use Rattle.config.specs.declared.Timing.{Timing}
+use Rattle.command.specs.Pins.{level}
 use Rattle.words.specs.Words.{wordsOf}
 use Rattle.words.proofs.Listed.{words-length}
 use Rattle.bytecheck.specs.Passed.{Passed, none}
@@ -19,18 +23,15 @@ use Rattle.bytecheck.proofs.skim.skim.Statement.{statement}
 use Rattle.bytecheck.proofs.skim.skim.Tie as tie
 
 abbrev Inv-loop : tie.InvT-loop
-Inv-loop timing bytes start end track₀ track = Going timing (wordsOf bytes) end track₀ track
+Inv-loop timing bytes start end track₀ tried₀ track tried = Going timing (wordsOf bytes) end track₀ track
 
 abbrev μ-loop : tie.MeasureT-loop
-μ-loop timing bytes start end track₀ track = length bytes / 4 - track .clock
+μ-loop timing bytes start end track₀ tried₀ track tried = 2 * (length bytes / 4 - track .clock) + level (not tried)
 
 -- what a turn passes
 module _ (c : tie.After-past-idle Inv-loop μ-loop) where
-  abbrev paired : tie.After-past-pairs Inv-loop μ-loop
-  paired = c .before .before .before
-
   abbrev turn : tie.At-loop Inv-loop μ-loop
-  turn = paired .before .before
+  turn = c .before .before .before
 
   abbrev timing : Timing
   timing = turn .before .before .before .before .args .timing
@@ -38,19 +39,25 @@ module _ (c : tie.After-past-idle Inv-loop μ-loop) where
   abbrev bytes : List ℕ
   bytes = now (turn .before .before .before .before .args .bytes)
 
-  abbrev reached : Track
-  reached = paired .past-pairs .result
+  -- DESL words or a sleep
+  by-idle : Passed timing (wordsOf bytes) (trackAt (turn .loop .track)) (idleAt (c .past-idle .result) (stampsOf (turn .loop .track)))
+  by-idle = rw (c .before .before .current .ensures) at (c .past-idle .ensures .1) (turn .loop .inv .tracked .due)
 
-  -- reads and writes
-  by-pairs : Passed timing (wordsOf bytes) (trackAt (turn .loop .track)) (trackAt reached)
-  by-pairs = passed-on (paired .before .past-gaps .ensures .1) (paired .past-pairs .ensures .1)
+-- and then reads and writes
+turned : (c : tie.After-past-pairs Inv-loop μ-loop) → let d = c .before .before .before .before in
+    Passed (timing d) (wordsOf (bytes d)) (trackAt (turn d .loop .track)) (trackAt (c .past-pairs .result))
+turned c =
+    let d = c .before .before .before .before in
+    passed-on (by-idle d) (passed-on (c .before .past-gaps .ensures .1) (c .past-pairs .ensures .1))
 
-  -- and then
-  by-idle : Passed timing (wordsOf bytes) (trackAt reached) (idleAt (c .past-idle .result) (stampsOf reached))
-  by-idle = rw (c .before .before .current .ensures) at (c .past-idle .ensures .1) (paired .past-pairs .ensures .0 .due)
-
-  turned : Passed timing (wordsOf bytes) (trackAt (turn .loop .track)) (idleAt (c .past-idle .result) (stampsOf reached))
-  turned = passed-on by-pairs by-idle
+-- fewer words are left, or none is passed in the first turn alone
+fewer : (tried : Bool) (from after at count : ℕ) → (tried && eqb after from) ≡ false → from ≤ after → after ≤ at
+    → (from < at → at ≤ count) → 2 * (count - at) + 0 < 2 * (count - from) + level (not tried)
+fewer true from after at count e h l inside =
+    let moved = eqb-false after from e in
+    let most = inside (omega arith) in
+    omega arith
+fewer false from after at count e h l inside = omega arith
 
 in-time-requires : tie.Need-in-time-requires Inv-loop μ-loop
 in-time-requires c κs = search needs
@@ -74,12 +81,6 @@ loop-holds c =
       passed = none;
     }
 
-past-gaps-requires : tie.Need-past-gaps-requires Inv-loop μ-loop
-past-gaps-requires c κs = search needs
-
-past-pairs-requires : tie.Need-past-pairs-requires Inv-loop μ-loop
-past-pairs-requires c κs = search needs
-
 current-requires : tie.Need-current-requires Inv-loop μ-loop
 current-requires c κs = search needs
 
@@ -97,29 +98,35 @@ at-requires c κs = search needs
 
 returns : tie.Need-returns Inv-loop μ-loop
 returns c =
-    let d = c .before .before in
-    rw (c .at .ensures, d .before .before .current .ensures) (passed-on (turn d .loop .inv .passed) (turned d))
+    let d = c .before .before .before in
+    rw (c .at .ensures, d .before .before .current .ensures) (passed-on (turn d .loop .inv .passed) (by-idle d))
 
 cast-track : tie.Need-cast-track Inv-loop μ-loop
 cast-track c = search needs
 
+past-gaps-requires : tie.Need-past-gaps-requires Inv-loop μ-loop
+past-gaps-requires c κs =
+    let d = c .before .before in
+    let kept = turn d .loop .inv .tracked in (
+      search needs,
+      search needs,
+      record { row = kept .row; low = kept .low; fits = search needs; two = kept .two; due = kept .due; free = kept .free },
+    )
+
+past-pairs-requires : tie.Need-past-pairs-requires Inv-loop μ-loop
+past-pairs-requires c κs = search needs
+
 loop-less : tie.Need-loop-less Inv-loop μ-loop
 loop-less c =
-    let d = c .before in
-    let from = turn d .loop .track in
-    let marked = passed-onward (paired d .before .past-gaps .ensures .1) in
-    let onward = passed-onward (paired d .past-pairs .ensures .1) in
-    let more : from .clock < d .past-idle .result = omega (arith, marked, onward, d .past-idle .ensures .0, c .if1 .left) in
-    omega (arith, rw (words-length (bytes d)) at (passed-inside (turned d) more))
+    let d = c .before .before .before .before in
+    let onward = passed-onward (passed-on (c .before .past-gaps .ensures .1) (c .past-pairs .ensures .1)) in
+    fewer (turn d .loop .tried) (turn d .loop .track .clock) (d .past-idle .result) (c .past-pairs .result .clock) (length (bytes d) / 4)
+    (c .before .before .if1 .left) (d .past-idle .ensures .0) onward (λ h. rw (words-length (bytes d)) at (passed-inside (turned c) h))
 
 loop-again : tie.Need-loop-again Inv-loop μ-loop
 loop-again c =
-    let d = c .before in
-    let kept = paired d .past-pairs .ensures .0 in
-    record {
-      tracked = record { row = kept .row; low = kept .low; fits = search needs; two = kept .two; due = kept .due; free = kept .free };
-      passed = passed-on (turn d .loop .inv .passed) (turned d);
-    }
+    let d = c .before .before .before .before in
+    record { tracked = c .past-pairs .ensures .0; passed = passed-on (turn d .loop .inv .passed) (turned c) }
 
 pub skim-spec : {M : Type 1} → statement M
 skim-spec =
@@ -130,8 +137,6 @@ skim-spec =
     in-time-requires
     free-from-requires
     loop-holds
-    past-gaps-requires
-    past-pairs-requires
     current-requires
     cast-past-idle
     past-idle-requires
@@ -139,5 +144,7 @@ skim-spec =
     at-requires
     returns
     cast-track
+    past-gaps-requires
+    past-pairs-requires
     loop-less
     loop-again)
