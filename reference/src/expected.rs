@@ -3,7 +3,7 @@
 use crate::both::Both;
 use crate::checker::{Checker, Step};
 use crate::controller::Controller;
-use crate::counts::{counts, Counts};
+use crate::counts::counts;
 use crate::judge::{check, Verdict};
 use crate::limits::check_within;
 use crate::lines::{self, numbered, refused};
@@ -70,19 +70,15 @@ impl Player {
             Call::Offer(numbers) | Call::OfferLent(numbers) => self.offer(*numbers),
             Call::Tick(count) | Call::TickLent(count) => self.tick(*count),
             Call::TickOnce | Call::TickOnceLent => self.tick_once(),
-            Call::ReadPair(first, second) => match pair::read(&self.sheet, *first, *second) {
-                Ok(operation) => lines::operation(&operation),
-                Err(number) => refused(number),
-            },
+            Call::ReadPair(first, second) => {
+                lines::reading(pair::read(&self.sheet, *first, *second))
+            }
             Call::WritePair(numbers) => match pair::write(&self.sheet, &operation(numbers)) {
                 Ok((first, second)) => format!("words {first} {second}\n"),
                 Err(number) => refused(number),
             },
-            Call::Count(words) => match counts(words) {
-                Ok(counts) => numbered("counts", &counts.numbers()),
-                Err(number) => refused(number),
-            },
-            Call::CountAnyway(words) => count_anyway(words),
+            Call::Count(words) => lines::counts(counts(&self.sheet, words)),
+            Call::CountAnyway(words) => lines::counts_anyway(counts(&self.sheet, words)),
             Call::Waiting => self.waiting(),
             Call::Walk(words) => self.walk(words),
             Call::Advance(words) => self.advance(words),
@@ -213,15 +209,6 @@ impl Player {
         }
         text
     }
-}
-
-/// Counts the commands, and shows the counts of a refused tally too, which are 0.
-fn count_anyway(words: &[u32]) -> String {
-    let (number, counts) = match counts(words) {
-        Ok(counts) => (0, counts),
-        Err(number) => (number, Counts::default()),
-    };
-    numbered("counts", &[&[number], &counts.numbers()[..]].concat())
 }
 
 /// The operation of raw numbers.

@@ -8,6 +8,7 @@ pub mod command_line;
 pub mod controller;
 pub mod counts;
 pub mod coverage;
+pub mod data;
 pub mod expected;
 pub mod ground;
 pub mod hand_in;

@@ -1,8 +1,9 @@
 //! The lines that the replay program writes for answers.
 
 use crate::checker::Step;
+use crate::counts::{numbers, Counts};
 use crate::limits::Shown;
-use crate::pair::Operation;
+use crate::pair::{Operation, Reading};
 use crate::time::Time;
 use crate::walk::Move;
 
@@ -42,12 +43,32 @@ pub fn time(length: Result<Time, u32>) -> String {
     }
 }
 
-/// The line of an operation that was read.
-pub fn operation(operation: &Operation) -> String {
-    match operation {
-        Operation::Access(request) => numbered("access", &request.numbers()),
-        Operation::Regular(a3) => format!("regular {}\n", *a3 as u32),
-        Operation::Extended(value) => format!("extended {value}\n"),
-        Operation::Refresh => "refresh\n".to_string(),
+/// The line of a pair that was read: what it stands for, and behind that the clocks of its data.
+pub fn reading(reading: Result<Reading, u32>) -> String {
+    let Reading { operation, data } = match reading {
+        Ok(reading) => reading,
+        Err(number) => return refused(number),
+    };
+    let (word, numbers) = match operation {
+        Operation::Access(request) => ("access", request.numbers().to_vec()),
+        Operation::Regular(a3) => ("regular", vec![a3 as u32]),
+        Operation::Extended(value) => ("extended", vec![value]),
+        Operation::Refresh => ("refresh", vec![]),
+    };
+    let data = [data.latency, data.length];
+    numbered(word, &[&numbers[..], &data].concat())
+}
+
+/// The line of a tally.
+pub fn counts(tally: Result<Counts, u32>) -> String {
+    match tally {
+        Ok(counts) => numbered("counts", &counts.numbers()),
+        Err(number) => refused(number),
     }
+}
+
+/// The line of a tally with the refusal's number before its counts, which a refused one has too.
+pub fn counts_anyway(tally: Result<Counts, u32>) -> String {
+    let (number, counts) = numbers(tally);
+    numbered("counts", &[&[number], &counts[..]].concat())
 }

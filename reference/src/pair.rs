@@ -1,5 +1,6 @@
 //! Pairs of words: the operation that a pair stands for, read from pins and written to pins.
 
+use crate::data::DataClocks;
 use crate::sheet::Sheet;
 use crate::wiring::{self, greatest_bank, greatest_row};
 use crate::word::{a, high, stray_bit, BA0, BA1, BA2, CS, FN, PD};
@@ -24,6 +25,13 @@ pub enum Operation {
     /// An extended mode with A1 to A6 as a number, A1 its lowest bit.
     Extended(u32),
     Refresh,
+}
+
+/// What a pair is read to: what it stands for, and when its data stand.
+#[derive(Clone, Copy, Debug, PartialEq, Eq)]
+pub struct Reading {
+    pub operation: Operation,
+    pub data: DataClocks,
 }
 
 /// What a closed pair is by its pins alone, its fields not looked at.
@@ -212,19 +220,24 @@ fn lane_pins(sheet: &Sheet, words: u32, (vw0, vw1): (u32, u32)) -> u32 {
 }
 
 /// Reads a pair: the sheet's refusals, then 28 for no pair or breach 1, 2, 4 or 5 in it.
-pub fn read(sheet: &Sheet, first: u32, second: u32) -> Result<Operation, u32> {
+pub fn read(sheet: &Sheet, first: u32, second: u32) -> Result<Reading, u32> {
     if let Some(number) = sheet.refusal() {
         return Err(number);
     }
-    if high(first, CS) {
+    let Some(operation) = operation(sheet, first, second) else {
         return Err(28);
+    };
+    let data = DataClocks::of(sheet, kind(first, second));
+    Ok(Reading { operation, data })
+}
+
+/// What two words stand for on an accepted sheet; none if they are no pair or an unsound one.
+fn operation(sheet: &Sheet, first: u32, second: u32) -> Option<Operation> {
+    let unsound = |word| stray_bit(word) || !high(word, PD);
+    if high(first, CS) || unsound(first) || unsound(second) {
+        return None;
     }
-    for word in [first, second] {
-        if stray_bit(word) || !high(word, PD) {
-            return Err(28);
-        }
-    }
-    let request = |write, lower, upper| {
+    let request = |write, (lower, upper)| {
         Operation::Access(Request {
             write,
             bank: wiring::bank(sheet, first),
@@ -235,15 +248,12 @@ pub fn read(sheet: &Sheet, first: u32, second: u32) -> Result<Operation, u32> {
         })
     };
     match kind(first, second) {
-        Kind::Read => Ok(request(false, 0, 0)),
-        Kind::Write => match lanes(sheet, second) {
-            Some((lower, upper)) => Ok(request(true, lower, upper)),
-            None => Err(28),
-        },
-        Kind::Refresh => Ok(Operation::Refresh),
-        _ if !mode_fields_fit(sheet, second) => Err(28),
-        Kind::Regular => Ok(Operation::Regular(high(second, a(3)))),
-        Kind::Extended => Ok(Operation::Extended((second >> 1) & 63)),
+        Kind::Read => Some(request(false, (0, 0))),
+        Kind::Write => lanes(sheet, second).map(|lanes| request(true, lanes)),
+        Kind::Refresh => Some(Operation::Refresh),
+        _ if !mode_fields_fit(sheet, second) => None,
+        Kind::Regular => Some(Operation::Regular(high(second, a(3)))),
+        Kind::Extended => Some(Operation::Extended((second >> 1) & 63)),
     }
 }
 

@@ -65,14 +65,14 @@ impl List {
             self.open = Some(word).filter(|&w| !high(w, CS));
             return Ok(());
         };
-        let operation = pair::read(&self.sheet, first, word);
-        let Ok(operation) = operation else {
+        let reading = pair::read(&self.sheet, first, word);
+        let Ok(reading) = reading else {
             return Err(format!(
-                "the pair at {} cannot be read: {operation:?}",
+                "the pair at {} cannot be read: {reading:?}",
                 clock - 1
             ));
         };
-        if let Operation::Access(request) = operation {
+        if let Operation::Access(request) = reading.operation {
             let Some(oldest) = self.waiting().first() else {
                 return Err(format!("the pair at {} was not asked for", clock - 1));
             };

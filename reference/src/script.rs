@@ -17,11 +17,11 @@ pub enum Call {
     Offer([u32; 6]),
     /// Tick count times.
     Tick(u32),
-    /// Read the pair.
+    /// Read the pair, with the clocks of its data.
     ReadPair(u32, u32),
     /// Write the pair.
     WritePair(PairNumbers),
-    /// Count the commands.
+    /// Count the commands and the clocks of data.
     Count(Vec<u32>),
     /// The requests waiting.
     Waiting,
@@ -49,7 +49,7 @@ pub enum Call {
     TickOnce,
     /// Tick a lent controller once.
     TickOnceLent,
-    /// Count the commands, the counts of a refused tally shown too.
+    /// The same, the counts of a refused tally shown too.
     CountAnyway(Vec<u32>),
     /// One advance of a walk over the words that has reached the checker as it is.
     Advance(Vec<u32>),

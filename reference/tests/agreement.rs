@@ -3,9 +3,10 @@
 
 use reference::checker::{Checker, Step};
 use reference::controller::Controller;
+use reference::data::DataClocks;
 use reference::history::History;
 use reference::judge::{judge, Verdict};
-use reference::pair::{self, Kind, Operation};
+use reference::pair::{self, Kind, Operation, Reading};
 use reference::past::Past;
 use reference::random::Random;
 use reference::sheet::{Sheet, SHEET_E};
@@ -21,7 +22,9 @@ fn pairs_written_are_read_back_whatever_the_ignored_pins() {
             for _ in 0..200 {
                 let operation = pool::operation(&random, &sheet, kind, random.below(8));
                 let (first, second) = pool::noisy(&random, &sheet, kind, &operation);
-                assert_eq!(pair::read(&sheet, first, second), Ok(operation));
+                let data = DataClocks::of(&sheet, kind);
+                let reading = Reading { operation, data };
+                assert_eq!(pair::read(&sheet, first, second), Ok(reading));
                 assert_eq!(pair::kind(first, second), kind);
             }
         }
@@ -146,8 +149,8 @@ fn carried(sheet: &Sheet, words: &[u32]) -> Vec<Operation> {
     let mut clock = 0;
     while clock + 1 < words.len() {
         match pair::read(sheet, words[clock], words[clock + 1]) {
-            Ok(operation) => {
-                operations.push(operation);
+            Ok(reading) => {
+                operations.push(reading.operation);
                 clock += 2;
             }
             Err(_) => clock += 1,

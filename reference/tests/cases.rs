@@ -4,10 +4,11 @@ use reference::both::Both;
 use reference::checker::Step;
 use reference::controller::Controller;
 use reference::counts::counts;
+use reference::data::DataClocks;
 use reference::expected::expected;
 use reference::history::History;
 use reference::judge::{breach, check, judge, Verdict, LONGEST};
-use reference::pair::{self, Operation, Request};
+use reference::pair::{self, Operation, Reading, Request};
 use reference::sheet::{Sheet, SHEET_E};
 use reference::summary::Summary;
 use reference::walk::Walk;
@@ -134,9 +135,13 @@ fn case_f_read_then_mode() {
 
 #[test]
 fn case_g_lanes_of_a_write() {
-    let write = Operation::Access(Request::from_numbers([1, 0, 0, 0, 4, 4]));
-    assert_eq!(pair::write(&SHEET_E, &write), Ok((0x80000, 0xD1000)));
-    assert_eq!(pair::read(&SHEET_E, 0x80000, 0xD1000), Ok(write));
+    let operation = Operation::Access(Request::from_numbers([1, 0, 0, 0, 4, 4]));
+    assert_eq!(pair::write(&SHEET_E, &operation), Ok((0x80000, 0xD1000)));
+    // WL is 3, and BL / 2 is 2.
+    let (latency, length) = (3, 2);
+    let data = DataClocks { latency, length };
+    let reading = Reading { operation, data };
+    assert_eq!(pair::read(&SHEET_E, 0x80000, 0xD1000), Ok(reading));
 }
 
 #[test]
@@ -166,8 +171,9 @@ fn a_long_trace_refuses() {
     let words = vec![DESL; 16_777_217];
     assert_eq!(check::<Summary>(&SHEET_E, &words), Err(24));
     assert_eq!(check::<Summary>(&SHEET_E, &words[1..]), Ok(ACCEPTED));
-    assert_eq!(counts(&words[..65_537]), Err(30));
-    assert_eq!(counts(&words[..65_536]).unwrap().desls, 65_536);
+    assert_eq!(counts(&SHEET_E, &words[..65_537]), Err(30));
+    let counted = counts(&SHEET_E, &words[..65_536]).unwrap();
+    assert_eq!(counted.numbers(), [0, 0, 0, 0, 65_536, 0]);
 }
 
 #[test]

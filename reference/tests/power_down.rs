@@ -227,16 +227,16 @@ fn ends() {
     }
 }
 
-/// Reads, writes, modes, refreshes and DESL words: a low word outside of a pair is DESL and opens nothing;
-/// a closing word closes its pair whatever its PD; a high word opens one right behind a low word.
+/// Reads, writes, modes, refreshes, DESL words and clocks of data: a low word outside of a pair is DESL and
+/// opens nothing; a closing word closes its pair whatever its PD; a high word opens one right behind a low word.
 #[test]
 fn counted() {
-    let numbers = |words: &[u32]| counts(words).unwrap().numbers();
-    assert_eq!(numbers(&[LOW, LOW_CS, 0x20000]), [0, 0, 0, 0, 3]);
-    assert_eq!(numbers(&[LOW_CS, RDA, DESL]), [1, 0, 0, 0, 1]);
-    assert_eq!(numbers(&[RDA, LOW, RDA, LOW_CS]), [1, 0, 1, 0, 0]);
-    assert_eq!(numbers(&[WRA, LOW, WRA, LOW_CS]), [0, 1, 0, 1, 0]);
-    assert_eq!(numbers(&[LOW, WRA, WRA, LOW_CS, WRA]), [0, 0, 0, 1, 2]);
+    let numbers = |words: &[u32]| counts(&SHEET_E, words).unwrap().numbers();
+    assert_eq!(numbers(&[LOW, LOW_CS, 0x20000]), [0, 0, 0, 0, 3, 0]);
+    assert_eq!(numbers(&[LOW_CS, RDA, DESL]), [1, 0, 0, 0, 1, 2]);
+    assert_eq!(numbers(&[RDA, LOW, RDA, LOW_CS]), [1, 0, 1, 0, 0, 2]);
+    assert_eq!(numbers(&[WRA, LOW, WRA, LOW_CS]), [0, 1, 0, 1, 0, 2]);
+    assert_eq!(numbers(&[LOW, WRA, WRA, LOW_CS, WRA]), [0, 0, 0, 1, 2, 0]);
 }
 
 /// A pair with PD low in either word cannot be read.

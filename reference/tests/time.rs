@@ -3,7 +3,7 @@
 use reference::expected::expected;
 use reference::script::{script, Call};
 use reference::sheet::{Sheet, SHEET_E, SHEET_E_OF_FOUR};
-use reference::suites::sheets::SPOILED;
+use reference::suites::sheets::{all_spoiled, SPOILED};
 use reference::suites::time::check;
 use reference::time::{length, Time};
 use reference::word::DESL;
@@ -152,10 +152,8 @@ fn refusals_in_their_order() {
             assert_eq!(of(sheet, count), Err(32));
         }
     }
-    for (i, (place, value, number)) in SPOILED.into_iter().enumerate() {
+    for ((place, value, number), all) in SPOILED.into_iter().zip(all_spoiled()) {
         let unfit = SHEET_E.with(place, value);
-        let later = SPOILED[i..].iter();
-        let all = later.fold(SHEET_E, |sheet, field| sheet.with(field.0, field.1));
         for count in [0, 1, LIMIT, LIMIT + 1, u32::MAX] {
             assert_eq!(of(unfit, count), Err(number));
             assert_eq!(of(all, count), Err(number));

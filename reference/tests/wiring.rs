@@ -33,6 +33,11 @@ fn read(bank: u32, row: u32) -> Operation {
     Operation::Access(Request::from_numbers([0, bank, row, 0, 0, 0]))
 }
 
+/// What a pair stands for.
+fn operation(sheet: &Sheet, first: u32, second: u32) -> Result<Operation, u32> {
+    pair::read(sheet, first, second).map(|reading| reading.operation)
+}
+
 #[test]
 fn banks_and_rows_on_their_pins() {
     let words = [
@@ -46,7 +51,7 @@ fn banks_and_rows_on_their_pins() {
     for (first, with) in words {
         for (wiring, (bank, row)) in WIRINGS.into_iter().zip(with) {
             let (sheet, request) = (wired(wiring), read(bank, row));
-            assert_eq!(pair::read(&sheet, first, DESL), Ok(request));
+            assert_eq!(operation(&sheet, first, DESL), Ok(request));
             assert_eq!(pair::write(&sheet, &request), Ok((first, DESL)));
         }
     }
@@ -115,10 +120,8 @@ fn closing_words_are_the_same() {
         for (second, lower) in lanes {
             let words = (0x88009, second);
             assert_eq!(pair::write(&wired(wiring), &write(lower)), Ok(words));
-            assert_eq!(
-                pair::read(&wired(wiring), 0x88009, second),
-                Ok(write(lower))
-            );
+            let read = operation(&wired(wiring), 0x88009, second);
+            assert_eq!(read, Ok(write(lower)));
         }
         assert_eq!(pair::read(&wired(wiring), 0x88009, 0xC1003), Err(28));
     }
@@ -155,8 +158,8 @@ fn a_sheet_without_its_wiring() {
     let calls = [6, READ_OF_4[0], READ_OF_4[1], 4, 0, 4, 0, 0, 0, 0, 9];
     let without = [&[1], &SHEET_E.without_wiring()[..], &calls].concat();
     let with = |wiring| [&[13], &wired(wiring).numbers()[..], &calls].concat();
-    let of_eight = "config 0\naccess 0 4 0 0 0 0\noffered\nwaiting 1\nrequest 0 4 0 0 0 0\n";
-    let of_four = "config 0\naccess 0 0 16384 0 0 0\nrefused 26\nwaiting 0\n";
+    let of_eight = "config 0\naccess 0 4 0 0 0 0 4 2\noffered\nwaiting 1\nrequest 0 4 0 0 0 0\n";
+    let of_four = "config 0\naccess 0 0 16384 0 0 0 4 2\nrefused 26\nwaiting 0\n";
     assert_eq!(expected(&without), of_eight);
     assert_eq!(expected(&with(8)), of_eight);
     assert_eq!(expected(&with(4)), of_four);

@@ -1,3 +1,3 @@
--- Turns of a walk, and five stores.
+-- Turns of a walk, and six stores.
 pub mod Turns
 pub mod Places

@@ -1,4 +1,4 @@
-// The parts of a count's answer, and the five counts put into a buffer.
+// The parts of a count's answer, and the six counts put into a buffer.
 use counts::CommandCounts;
 use counts::CountsAnswer;
 ghost use mathlib.Core.Path.{_≡_};
@@ -27,11 +27,12 @@ pub(crate) fn counts_of(answer: CountsAnswer) -> CommandCounts
 pub(crate) fn store(counts: CommandCounts, places: &mut [u32])
     ensures { λ _. ⌜ now (places .exit) ≡ stored counts (now (places .entry)) ⌝ }
 {
-    if 5 <= places.len() {
+    if 6 <= places.len() {
         places[0] = counts.reads;
         places[1] = counts.writes;
         places[2] = counts.modes;
         places[3] = counts.refreshes;
         places[4] = counts.desls;
+        places[5] = counts.clocks.0;
     }
 }

@@ -23,10 +23,9 @@ use timed::refusal_of;
 use walk::walk;
 ghost use mathlib.Core.Path.{_≡_};
 ghost use Rattle.rules.specs.Verdict.{checkOf};
-ghost use Rattle.counts.specs.Counts.{countingOf};
 ghost use Rattle.bulk.specs.Numbers.{sheetOf, checkNumber, findingNumber, walkNumber};
 ghost use Rattle.bulk.specs.Walks.{walkOf, againOf};
-ghost use Rattle.bulk.specs.Stored.{stored};
+ghost use Rattle.bulk.specs.Stored.{countedOf, stored};
 ghost use Rattle.bulk.specs.Shown.{foundOf, shownIn};
 ghost use Rattle.bulk.specs.Timed.{timedOf, timedNumber, timedIn};
 
@@ -96,13 +95,14 @@ pub extern "C" fn bulk_walk_again(sheet: &[u32; 11], words: &[u32]) -> u64
     of_progress(progress)
 }
 
-// Counts the commands and puts the five counts into the first five places, if there are five; 0 or the refusal's number.
+// Counts the commands and puts the six counts into the first six places, if there are six; 0 or the refusal's number.
 #[no_mangle]
-pub extern "C" fn bulk_count(words: &[u32], places: &mut [u32]) -> u32
-    ensures answer { λ r. ⌜ r ≡ countingOf (now (words .entry)) .number ⌝ }
-    ensures buffer { λ _. ⌜ now (places .exit) ≡ stored (countingOf (now (words .entry)) .counts) (now (places .entry)) ⌝ }
+pub extern "C" fn bulk_count(sheet: &[u32; 11], words: &[u32], places: &mut [u32]) -> u32
+    ensures answer { λ r. ⌜ r ≡ countedOf (now (sheet .entry)) (now (words .entry)) .number ⌝ }
+    ensures buffer { λ _. ⌜ now (places .exit) ≡
+        stored (countedOf (now (sheet .entry)) (now (words .entry)) .counts) (now (places .entry)) ⌝ }
 {
-    let answer = count_commands(words);
+    let answer = count_commands(config_of(sheet), words);
     store(counts_of(answer), places);
     number_of(answer)
 }

@@ -12,7 +12,7 @@ use Rattle.config.specs.Configuration.{timingOf}
 use Rattle.config.specs.declared.Config.{Config}
 use Rattle.config.specs.declared.Timing.{Timing}
 use Rattle.basics.proofs.Outcomes.{refused-value, same-number, refused-by}
-use Rattle.config.proofs.Accepted.{wired, config-19}
+use Rattle.config.proofs.Accepted.{wired, config-below}
 use Rattle.rules.specs.History.{ClosedPair, idle, Phase, between, nextPhase, nextPairs}
 use Rattle.rules.specs.Verdict.{accepted, breach, judge}
 use Rattle.stamps.specs.Stamps.{nextStamps, nextMet}
@@ -139,7 +139,7 @@ never-19 : (c : Config) (ws : List ℕ) (w : ℕ) → stepOf (afterAll (fresh c)
 never-19 c ws w =
     let s = afterAll (fresh c) ws in
     let a = s .config in
-    not-19 (timingOf a) s w (config-19 a)
+    not-19 (timingOf a) s w (config-below a 19 (omega arith))
     (past-all (fresh c) ws
     (record { phase = between idle; pairs = []; regular = (omega arith, tt); limit = omega arith; met = refl; stamps = refl }))
 

@@ -1,14 +1,16 @@
 -- A call that gave a value had an accepted configuration: all its tests held, and its timing is the derived one. So had one that refused by
 -- a number which no configuration is refused by.
-use Prim.Native.Nat.{ℕ, _<_}
+use Prim.Native.Nat.{ℕ, _≤_, _<_}
 use mathlib.Core.Path.{_≡_}
 use mathlib.Core.Bool.{true}
+use mathlib.Core.Logic.{⊎-elim}
 use native.Mathlib.Omega.{arith}
 use lib.Dec.{eqb}
 use Rattle.basics.specs.Outcome.{Outcome, value, refused, given}
 use Rattle.config.specs.Configuration.{partFits, wiringFits, periodFits, countsFit, refreshFits, derived, timingOf}
 use Rattle.config.specs.declared.Config.{Config}
 use Rattle.config.specs.declared.Timing.{Timing}
+use Rattle.config.proofs.Bounds.{bl-cases}
 use Rattle.basics.proofs.Outcomes.{require-value, given-value, Not, value-not, require-not, given-behind}
 
 pub record Accepted (c : Config) : Type 0 where
@@ -30,6 +32,12 @@ accepted c t e =
 -- the timing has its configuration's wiring
 pub wired : (c : Config) (t : Timing) → timingOf c ≡ value t → t .four ≡ eqb (c .wiring) 4
 wired c t e = rw (← accepted c t e .1)
+
+-- and a burst length of at most 4
+pub bl-bound : (c : Config) (t : Timing) → timingOf c ≡ value t → t .bl ≤ 4
+bl-bound c t e =
+    let a = accepted c t e in
+    rw (← a .1) (⊎-elim (λ h. omega arith) (λ h. omega arith) (bl-cases c (a .0 .part)))
 
 pub timing-is : (c : Config) → Accepted c → timingOf c ≡ value (derived c)
 timing-is c a = rw (a .part, a .wiring, a .period, a .counts, a .refresh)
@@ -58,9 +66,9 @@ config-not c n not-20 not-34 not-21 not-22 not-33 =
     (require-not (countsFit c) 22 n _ not-22
     (require-not (refreshFits c) 33 n _ not-33 (value-not n _)))))
 
--- so not by 19
-pub config-19 : (c : Config) → Not 19 (timingOf c)
-config-19 c = config-not c 19 (λ e. omega arith) (λ e. omega arith) (λ e. omega arith) (λ e. omega arith) (λ e. omega arith)
+-- so not by one below 20
+pub config-below : (c : Config) (n : ℕ) → n < 20 → Not n (timingOf c)
+config-below c n low = config-not c n (λ e. omega arith) (λ e. omega arith) (λ e. omega arith) (λ e. omega arith) (λ e. omega arith)
 
 -- nor by a number between 22 and 33
 pub config-between : (c : Config) (n : ℕ) → 22 < n → n < 33 → Not n (timingOf c)

@@ -1,10 +1,15 @@
-// How often each command stands in a trace (the paper's tally). It judges nothing.
+// How often each command stands in a trace, and how long its data last (the paper's tally). It judges nothing.
 use basics::Refusal;
 use command::Pair;
 use command::pins::CS;
 use command::pins::FN;
 use command::pins::bit;
 use command::pins::high;
+use config::Clocks;
+use config::Config;
+use config::Timing;
+use config::TimingAnswer;
+use reading::burst;
 use turns::TurnAnswer;
 use turns::opens_pair;
 use turns::turn;
@@ -22,6 +27,8 @@ pub struct CommandCounts {
     pub modes: u32,
     pub refreshes: u32,
     pub desls: u32,
+    // Clocks of data: the data lengths of these reads and writes, added up.
+    pub clocks: Clocks,
 }
 
 // The counts; of a refused call all are 0.
@@ -36,21 +43,29 @@ const ZERO: CommandCounts = CommandCounts {
     modes: 0,
     refreshes: 0,
     desls: 0,
+    clocks: Clocks(0),
 };
 
-// The counts with one more closed pair, of the kind that its two words make.
-fn with_pair(counts: CommandCounts, pair: Pair) -> CommandCounts
-    requires { ⌜ Below 65536 counts ⌝ }
-    ensures { λ r. ⌜ r ≡ withPair counts (pair .first) (pair .second) ⌝ }
+// The counts with one more closed pair, of the kind that its two words make, and with its data.
+fn with_pair(timing: Timing, counts: CommandCounts, pair: Pair) -> CommandCounts
+    requires { ⌜ (timing .bl ≤ 4) × Below 65536 counts ⌝ }
+    ensures { λ r. ⌜ r ≡ withPair timing counts (pair .first) (pair .second) ⌝ }
 {
     let rda = high(pair.first, FN);
     let lal = high(pair.second, CS);
+    let length = burst(timing, pair);
+    let reads = bit(rda & lal) + counts.reads;
+    let writes = bit(!rda & lal) + counts.writes;
+    let modes = bit(rda & !lal) + counts.modes;
+    let refreshes = bit(!rda & !lal) + counts.refreshes;
+    let sum = length.0 + counts.clocks.0;
     CommandCounts {
-        reads: bit(rda & lal) + counts.reads,
-        writes: bit(!rda & lal) + counts.writes,
-        modes: bit(rda & !lal) + counts.modes,
-        refreshes: bit(!rda & !lal) + counts.refreshes,
+        reads,
+        writes,
+        modes,
+        refreshes,
         desls: counts.desls,
+        clocks: Clocks(sum),
     }
 }
 
@@ -65,16 +80,16 @@ fn with_single(counts: CommandCounts, word: u32) -> CommandCounts
 }
 
 // Each turn starts with no pair open, and takes both words of a closed pair or else a single word.
-fn counts_of(words: &[u32]) -> CommandCounts
-    requires { ⌜ length (now words) ≤ 65536 ⌝ }
-    ensures { λ r. ⌜ r ≡ withTurns noCounts (turnsOf (now (words .entry))) ⌝ }
+fn counts_of(timing: Timing, words: &[u32]) -> CommandCounts
+    requires { ⌜ (timing .bl ≤ 4) × (length (now words) ≤ 65536) ⌝ }
+    ensures { λ r. ⌜ r ≡ withTurns timing noCounts (turnsOf (now (words .entry))) ⌝ }
 {
     let mut counts = ZERO;
     let mut at = 0;
     loop {
         match turn(words, at) {
             TurnAnswer::Closed(pair, next) => {
-                counts = with_pair(counts, pair);
+                counts = with_pair(timing, counts, pair);
                 at = next;
             }
             TurnAnswer::Single(word, next) => {
@@ -86,13 +101,18 @@ fn counts_of(words: &[u32]) -> CommandCounts
     }
 }
 
-// Counts the commands of at most 65,536 words; more refuse 30.
-pub fn count_commands(words: &[u32]) -> CountsAnswer
-    ensures { λ r. ⌜ countingOutcome r ≡ countingOf (now (words .entry)) ⌝ }
+// Counts the commands of at most 65,536 words on a configuration: its refusals, then 30 for more.
+pub fn count_commands(config: Config, words: &[u32]) -> CountsAnswer
+    ensures { λ r. ⌜ countingOutcome r ≡ countingOf config (now (words .entry)) ⌝ }
 {
-    if words.len() <= 65536 {
-        CountsAnswer::Counted(counts_of(words))
-    } else {
-        CountsAnswer::Refused(Refusal::TooLong, ZERO)
+    match config.timing() {
+        TimingAnswer::Refused(why) => CountsAnswer::Refused(why, ZERO),
+        TimingAnswer::Accepted(timing) => {
+            if words.len() <= 65536 {
+                CountsAnswer::Counted(counts_of(timing, words))
+            } else {
+                CountsAnswer::Refused(Refusal::TooLong, ZERO)
+            }
+        }
     }
 }

@@ -30,8 +30,8 @@ use Rattle.basics.specs.declared.refusal.Refusal.the-variants.{
 }
 use Rattle.reading.specs.Answers.{readOutcome}
 use Rattle.writing.specs.Answers.{writeOutcome}
-use Rattle.command.specs.declared.operation.Operation.{Operation}
 use Rattle.command.specs.declared.operation.Pair.{Pair}
+use Rattle.reading.specs.declared.Decoded.{Decoded}
 use Rattle.reading.specs.declared.ReadAnswer.{ReadAnswer}
 use Rattle.writing.specs.declared.WriteAnswer.{WriteAnswer}
 use Rattle.rules.specs.Verdict.{Judgement, accepted, breach}
@@ -121,13 +121,13 @@ unfolding timing
 timing-is (TimingAnswer.Accepted t) = refl
 timing-is (TimingAnswer.Refused r) = ap TimingAnswer.Refused (refusal-is r)
 
-read : Outcome Operation → ReadAnswer
-read (value o) = ReadAnswer.Read o
+read : Outcome Decoded → ReadAnswer
+read (value d) = ReadAnswer.Read d
 read (refused n) = ReadAnswer.Refused (refusal n)
 
 read-is : (x : ReadAnswer) → read (readOutcome x) ≡ x
 unfolding read
-read-is (ReadAnswer.Read o) = refl
+read-is (ReadAnswer.Read d) = refl
 read-is (ReadAnswer.Refused r) = ap ReadAnswer.Refused (refusal-is r)
 
 write : Outcome Pair → WriteAnswer

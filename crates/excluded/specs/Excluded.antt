@@ -157,21 +157,21 @@ pub record Examiners : Type 0 where
       → NoCheckBytes c wrongModeBytes v
 
 -- no contract lets the tally answer so
-abbrev pub NoTally : List ℕ → CountsAnswer → Type 0
-NoTally ws a = countingOutcome a ≡ countingOf ws → ⊥
+abbrev pub NoTally : Config → List ℕ → CountsAnswer → Type 0
+NoTally s ws a = countingOutcome a ≡ countingOf s ws → ⊥
 
--- wrong tallies
+-- wrong tallies, on any sheet
 pub record Tallies : Type 0 where
   -- one that invents counts: whichever of the counts differs, on any words
-  pub invented : (ws : List ℕ) (c : CommandCounts) (count : CommandCounts → ℕ) → (count c ≡ count (countsOf ws) → ⊥)
-      → NoTally ws (CountsAnswer.Counted c)
+  pub invented : (s : Config) (ws : List ℕ) (c : CommandCounts) (count : CommandCounts → ℕ)
+      → (count c ≡ count (countsOf (derived s) ws) → ⊥) → NoTally s ws (CountsAnswer.Counted c)
   -- of a refused tally, whichever is not 0
-  pub invented-refused : (ws : List ℕ) (why : Refusal) (c : CommandCounts) (count : CommandCounts → ℕ) → (count c ≡ count noCounts → ⊥)
-      → NoTally ws (CountsAnswer.Refused why c)
+  pub invented-refused : (s : Config) (ws : List ℕ) (why : Refusal) (c : CommandCounts) (count : CommandCounts → ℕ)
+      → (count c ≡ count noCounts → ⊥) → NoTally s ws (CountsAnswer.Refused why c)
   -- one that counts nothing, where a read pair stands
-  pub read-not-counted : NoTally (0xA0000 ∷ 0xC0000 ∷ []) (CountsAnswer.Counted noCounts)
+  pub read-not-counted : (s : Config) → NoTally s (0xA0000 ∷ 0xC0000 ∷ []) (CountsAnswer.Counted noCounts)
   -- one that lets a word with PD low open a pair: two words 0 are no refresh
-  pub low-word-opens : (c : CommandCounts) → c .refreshes ≡ 1 → NoTally (0 ∷ 0 ∷ []) (CountsAnswer.Counted c)
+  pub low-word-opens : (s : Config) (c : CommandCounts) → c .refreshes ≡ 1 → NoTally s (0 ∷ 0 ∷ []) (CountsAnswer.Counted c)
 
 -- no contract lets an advance over ws answer so and leave the checker `after`: not those of `next_word` and `advance_through`, and not
 -- that of `advance`, which promises the same of its checker

@@ -14,7 +14,7 @@ use Rattle.config.specs.Configuration.{timingOf}
 use Rattle.config.specs.declared.Config.{Config}
 use Rattle.config.specs.declared.Timing.{Timing}
 use Rattle.basics.proofs.Outcomes.{same-number, Not, value-not, require-not}
-use Rattle.config.proofs.Accepted.{accepted, config-19}
+use Rattle.config.proofs.Accepted.{accepted, config-below}
 use Rattle.writing.specs.Writing.{requestFits}
 use Rattle.command.specs.declared.operation.Request.{Request}
 use Rattle.command.specs.declared.operation.Operation.{Operation}
@@ -158,7 +158,7 @@ module _ (c : Config) (calls : List Call) where
 
   -- on a refused configuration every call is refused as the fresh one refuses it
   config-refuses : (n : ℕ) → timingOf c ≡ refused n → Not {A = Unit {0}} 19 (refused n)
-  config-refuses n is e = config-19 c (is ∙ ap refused (same-number e))
+  config-refuses n is e = config-below c 19 (omega arith) (is ∙ ap refused (same-number e))
 
   offered-19 : (q : Request) (o : Outcome Timing) → timingOf c ≡ o → Not 19 (offerOf end q .outcome)
   offered-19 q (value t) is =

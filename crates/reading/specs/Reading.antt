@@ -1,4 +1,4 @@
--- What two words stand for (RULES 2.3 to 2.6, 3.1), and when they are no sound pair (RULES 3.4).
+-- What two words stand for (RULES 2.3 to 2.6, 3.1), when its data come (RULES 3.6), and when the words are no sound pair (RULES 3.4).
 use Prim.Native.Nat.{ℕ, _/_}
 use mathlib.Core.Bool.{Bool, true, false, cond, not, _&&_, _||_}
 use lib.Dec.{eqb}
@@ -13,6 +13,7 @@ use Rattle.command.specs.declared.operation.Request.{Request}
 use Rattle.command.specs.declared.operation.Operation.{Operation}
 use Rattle.command.specs.declared.operation.Operation.the-variants.{Access, Regular, Extended, Refresh}
 use Rattle.command.specs.declared.operation.Pair.{Pair}
+use Rattle.reading.specs.declared.Decoded.{Decoded}
 
 -- the column on a LAL: A0 to A7 by 16, and A8 too by 8 (RULES 2.4)
 abbrev pub columnOf : Timing → ℕ → ℕ
@@ -56,6 +57,24 @@ operationOf t first second =
     cond (lal second) (Access (accessOf t (not (rda first)) first second))
     (cond (rda first) (modeBy (high 14 second) second) Refresh)
 
+-- the clocks from LAL to the first data: CL for a read, WL for a write, 0 for the others (RULES 3.6)
+abbrev pub latencyOf : Timing → Operation → ℕ
+latencyOf t (Access r) = cond (r .write) (t .wl) (t .cl)
+latencyOf t (Regular a3) = 0
+latencyOf t (Extended v) = 0
+latencyOf t Refresh = 0
+
+-- the data length in clocks: BL / 2 for a read or write, 0 for the others (RULES 3.6)
+abbrev pub burstOf : Timing → Operation → ℕ
+burstOf t (Access r) = t .bl / 2
+burstOf t (Regular a3) = 0
+burstOf t (Extended v) = 0
+burstOf t Refresh = 0
+
+-- an operation with the clocks of its data (RULES 3.6)
+abbrev pub decodedOf : Timing → Operation → Decoded
+decodedOf t o = record { operation = o; latency = record { 0 = latencyOf t o }; burst = record { 0 = burstOf t o } }
+
 -- the fields of a register, by BA0 (RULES 2.6): regular, if A0 to A2 are the code of the sheet's BL, which is half of it, and A4 to A6
 -- its CL; extended, if A0 is low
 abbrev pub registerFits : Bool → Timing → ℕ → Bool
@@ -90,7 +109,8 @@ soundPair t first second =
     && not (modeWrong t first second)
     && not (laneReserved t first second)
 
--- reading a pair: the operation; or the sheet's refusals, then 28 (RULES 3.4)
-abbrev pub readPair : Config → Pair → Outcome Operation
+-- reading a pair: the operation with the clocks of its data; or the sheet's refusals, then 28 (RULES 3.4)
+abbrev pub readPair : Config → Pair → Outcome Decoded
 readPair c p =
-    given (timingOf c) (λ t. require (soundPair t (p .first) (p .second)) 28 (value (operationOf t (p .first) (p .second))))
+    given (timingOf c)
+    (λ t. require (soundPair t (p .first) (p .second)) 28 (value (decodedOf t (operationOf t (p .first) (p .second)))))

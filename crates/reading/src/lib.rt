@@ -1,5 +1,7 @@
-// A pair of words is read to the operation that it stands for. Where a test picks the case, the leaf takes the test's result.
+// A pair of words is read to the operation that it stands for, and to the clocks of its data. Where a test picks the case, the leaf takes
+// the test's result.
 use basics::Refusal;
+use basics::choose;
 use command::Operation;
 use command::Pair;
 use command::Request;
@@ -21,6 +23,7 @@ use command::pins::FN;
 use command::pins::PD;
 use command::pins::high;
 use command::pins::kept;
+use config::Clocks;
 use config::Config;
 use config::Timing;
 use config::TimingAnswer;
@@ -28,12 +31,22 @@ ghost use mathlib.Core.Path.{_≡_};
 ghost use mathlib.Core.Bool.{cond};
 ghost use Rattle.command.specs.Pins.{pins};
 ghost use Rattle.reading.specs.Reading.{laneBy, accessOf, modeBy, operationOf, registerFits};
+ghost use Rattle.reading.specs.Reading.{latencyOf, burstOf, decodedOf};
 ghost use Rattle.reading.specs.Reading.{modeWrong, laneReserved, soundPair, readPair};
 ghost use Rattle.reading.specs.Answers.{readOutcome};
 
-// The operation, or the refusal.
+// What reading a pair gives: its operation, and when the data of a read or write lie on the data pins.
+pub struct Decoded {
+    pub operation: Operation,
+    // From LAL to the first data.
+    pub latency: Clocks,
+    // From the first data to the last, both included: the paper's data length.
+    pub burst: Clocks,
+}
+
+// What reading gives, or the refusal.
 pub enum ReadAnswer {
-    Read(Operation),
+    Read(Decoded),
     Refused(Refusal),
 }
 
@@ -91,7 +104,7 @@ fn mode(extended: bool, second: u32) -> Operation
 }
 
 // The operation of a pair.
-fn decode(timing: Timing, pair: Pair) -> Operation
+fn operation(timing: Timing, pair: Pair) -> Operation
     ensures { λ r. ⌜ r ≡ operationOf timing (pair .first) (pair .second) ⌝ }
 {
     let first = pair.first;
@@ -105,6 +118,34 @@ fn decode(timing: Timing, pair: Pair) -> Operation
         mode(high(second, BA0), second)
     } else {
         Operation::Refresh
+    }
+}
+
+// CL for a read, WL for a write, and 0 for the others (RULES 3.6).
+fn latency(timing: Timing, pair: Pair) -> Clocks
+    ensures { λ r. ⌜ r .0 ≡ latencyOf timing (operationOf timing (pair .first) (pair .second)) ⌝ }
+{
+    let figures = timing.figures();
+    let write = !high(pair.first, FN);
+    Clocks(kept(high(pair.second, CS), choose(write, figures.wl, figures.cl)))
+}
+
+// BL / 2 for a read or write, whatever its lanes write, and 0 for the others (RULES 3.6).
+pub fn burst(timing: Timing, pair: Pair) -> Clocks
+    ensures { λ r. ⌜ r .0 ≡ burstOf timing (operationOf timing (pair .first) (pair .second)) ⌝ }
+{
+    let figures = timing.figures();
+    Clocks(kept(high(pair.second, CS), figures.bl / 2))
+}
+
+// The operation of a pair with the clocks of its data.
+fn decode(timing: Timing, pair: Pair) -> Decoded
+    ensures { λ r. ⌜ r ≡ decodedOf timing (operationOf timing (pair .first) (pair .second)) ⌝ }
+{
+    Decoded {
+        operation: operation(timing, pair),
+        latency: latency(timing, pair),
+        burst: burst(timing, pair),
     }
 }
 

@@ -13,6 +13,7 @@ use counts::CountsAnswer;
 use duration::DurationAnswer;
 use libc::STDOUT_FILENO;
 use limits::LimitsAnswer;
+use reading::Decoded;
 use reading::ReadAnswer;
 use walks::Progress;
 use writing::WriteAnswer;
@@ -69,25 +70,32 @@ fn operation(o: Operation) {
     match o {
         Operation::Access(r) => {
             text(b"access");
-            request(r);
+            fields(r);
         }
         Operation::Regular(a3) => {
             text(b"regular");
             number(a3 as u32);
-            end();
         }
         Operation::Extended(v) => {
             text(b"extended");
             number(v);
-            end();
         }
-        Operation::Refresh => text(b"refresh\n"),
+        Operation::Refresh => text(b"refresh"),
     }
+}
+
+// The operation of a pair, and the clocks of its data.
+fn decoded(d: Decoded) {
+    let o = d.operation;
+    operation(o);
+    number(d.latency.0);
+    number(d.burst.0);
+    end();
 }
 
 pub(crate) fn read(answer: ReadAnswer) {
     match answer {
-        ReadAnswer::Read(o) => operation(o),
+        ReadAnswer::Read(d) => decoded(d),
         ReadAnswer::Refused(why) => refused(why),
     }
 }
@@ -195,13 +203,14 @@ pub(crate) fn timed(answer: DurationAnswer) {
     }
 }
 
-// The five counts, and the line's end.
-pub(crate) fn five(counts: CommandCounts) {
+// The six counts, and the line's end.
+pub(crate) fn six(counts: CommandCounts) {
     number(counts.reads);
     number(counts.writes);
     number(counts.modes);
     number(counts.refreshes);
     number(counts.desls);
+    number(counts.clocks.0);
     end();
 }
 
@@ -209,7 +218,7 @@ pub(crate) fn counted(answer: CountsAnswer) {
     match answer {
         CountsAnswer::Counted(counts) => {
             text(b"counts");
-            five(counts);
+            six(counts);
         }
         CountsAnswer::Refused(why, _) => refused(why),
     }

@@ -1,9 +1,9 @@
 // Whole states and whole answers, each a line of numbers.
 use crate::answers::end;
 use crate::answers::fields;
-use crate::answers::five;
 use crate::answers::number;
 use crate::answers::sheet;
+use crate::answers::six;
 use crate::answers::text;
 use checker::Checker;
 use command::Request;
@@ -90,17 +90,17 @@ pub(crate) fn ticked(answer: CallAnswer, word: u32) {
     end();
 }
 
-// 107: the answer and the five counts.
+// 107: the answer and the six counts.
 pub(crate) fn counted(answer: CountsAnswer) {
     text(b"counts");
     match answer {
         CountsAnswer::Counted(counts) => {
             number(0);
-            five(counts);
+            six(counts);
         }
         CountsAnswer::Refused(why, counts) => {
             number(why.number());
-            five(counts);
+            six(counts);
         }
     }
 }

@@ -98,10 +98,10 @@ fn on_words(bytes: &[u8], at: usize, words: &[u32], config: Config, checker: Che
     let code = word(bytes, at, 0);
     match code {
         3 => answers::checked(wordcheck::check(config, words), word(bytes, at, 1)),
-        8 => answers::counted(counts::count_commands(words)),
+        8 => answers::counted(counts::count_commands(config, words)),
         10 => walk(words, config),
         15 => answers::found(check_within(config, wired_at(bytes, ahead(at, 1)), words)),
-        107 => shown::counted(counts::count_commands(words)),
+        107 => shown::counted(counts::count_commands(config, words)),
         _ => return advanced(advance_through(words, checker)),
     }
     checker

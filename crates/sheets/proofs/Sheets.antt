@@ -17,6 +17,7 @@ use Rattle.config.proofs.Bounds.{both}
 use Rattle.config.proofs.Accepted.{accepted}
 use Rattle.checker.proofs.Refinement.{cond-case}
 use Rattle.fcram.specs.Number.{numberOf}
+use Rattle.counts.specs.Counts.{counting}
 use Rattle.rules.specs.Verdict.{checkBytesOf}
 use Rattle.checker.specs.Steps.{refusing, stepBy, stepOf}
 use Rattle.checker.specs.declared.checker.Checker.{Checker}
@@ -41,6 +42,7 @@ everywhere c n e =
       within = λ b words. given-refused (timingOf c) _ e;
       within-second = λ a t words h. rw h (given-refused (timingOf c) _ e);
       duration = λ count. given-refused (timingOf c) _ e;
+      count = λ words. ap counting (given-refused (timingOf c) _ e);
       step = stepped;
       advance =
           λ s words h.

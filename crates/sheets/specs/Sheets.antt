@@ -16,6 +16,7 @@ use Rattle.writing.specs.Writing.{writePair}
 use Rattle.rules.specs.Verdict.{checkOf, checkBytesOf}
 use Rattle.limits.specs.Limits.{withinOf}
 use Rattle.duration.specs.Duration.{durationOf}
+use Rattle.counts.specs.Counts.{noCounts, countingOf}
 use Rattle.fcram.specs.Number.{numberOf}
 use Rattle.checker.specs.Steps.{refusing, stepOf}
 use Rattle.checker.specs.declared.checker.Checker.{Checker}
@@ -50,6 +51,8 @@ pub record RefusedBy (n : ℕ) (c : Config) : Type 0 where
   pub within : (b : Config) (words : List ℕ) → withinOf c b words ≡ refused n
   pub within-second : (a : Config) (t : Timing) (words : List ℕ) → timingOf a ≡ value t → withinOf a c words ≡ refused n
   pub duration : (count : ℕ) → durationOf c count ≡ refused n
+  -- with counts that are all 0
+  pub count : (words : List ℕ) → countingOf c words ≡ record { number = n; counts = noCounts }
   pub step : (s : Checker) (w : ℕ) → s .config ≡ c → stepOf s w ≡ refusing s n
   pub advance : (s : Checker) (words : List ℕ) → s .config ≡ c → moveOf s words ≡ staying s (refused n)
   -- these two by value and on a borrowed controller: both contracts cite them

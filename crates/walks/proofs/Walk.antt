@@ -15,7 +15,7 @@ use Rattle.config.specs.Configuration.{timingOf}
 use Rattle.config.specs.declared.Config.{Config}
 use Rattle.config.specs.declared.Timing.{Timing}
 use Rattle.basics.proofs.Outcomes.{refused-value, same-number}
-use Rattle.config.proofs.Accepted.{config-19}
+use Rattle.config.proofs.Accepted.{config-below}
 use Rattle.rules.specs.Verdict.{Judgement, accepted, breach}
 use Rattle.rules.specs.Breaches.{wordBreach}
 use Rattle.consistency.specs.Consistency.{clockFits}
@@ -147,7 +147,7 @@ module _ (c : Config) where
     where
       go : (o : Outcome Timing) → timingOf c ≡ o → atEnd s ≡ refused 19 → ⊥
       go (value t) q e = refused-value (sym e ∙ ends t s q m)
-      go (refused n) q e = config-19 c (q ∙ ap refused (same-number (rw (m .config, q) at e)))
+      go (refused n) q e = config-below c 19 (omega arith) (q ∙ ap refused (same-number (rw (m .config, q) at e)))
 
   -- advancing from a clock on is stepping over the words from there
   module _ (t : Timing) (e : timingOf c ≡ value t) (ws : List ℕ) where

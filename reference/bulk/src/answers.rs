@@ -1,7 +1,6 @@
 //! The reference's answers as the archive's numbers.
 
 use reference::checker::Step;
-use reference::counts::{counts, Counts};
 use reference::judge::{check, Verdict};
 use reference::limits::{check_within, Limits};
 use reference::past::Past;
@@ -65,13 +64,5 @@ fn move_number(moved: Move) -> u64 {
         Some(Step::Pass) => unreachable!("a walk that has ended"),
         Some(Step::Breach { clock, number }) => breach(clock, number),
         Some(Step::Refused(number)) => number.into(),
-    }
-}
-
-/// The number of a tally and its five counts, which are 0 if it is refused.
-pub fn count_numbers(words: &[u32]) -> (u32, [u32; 5]) {
-    match counts(words) {
-        Ok(counts) => (0, counts.numbers()),
-        Err(number) => (number, Counts::default().numbers()),
     }
 }

@@ -18,7 +18,13 @@ mod archive {
             length: usize,
             shown: *mut u32,
         ) -> u64;
-        pub fn bulk_count(words: *const u32, length: usize, counts: *mut u32, room: usize) -> u32;
+        pub fn bulk_count(
+            sheet: *const u32,
+            words: *const u32,
+            length: usize,
+            places: *mut u32,
+            room: usize,
+        ) -> u32;
         pub fn bulk_duration(sheet: *const u32, count: usize, places: *mut u32) -> u32;
     }
 }
@@ -54,12 +60,13 @@ pub fn limits(limits: &Limits, words: &[u32], shown: &mut [u32; NUMBERS]) -> u64
     unsafe { archive::bulk_limits(least, greatest, start, length, shown.as_mut_ptr()) }
 }
 
-/// Counts the commands into the room given: 0 or a refusal.
-pub fn count(words: &[u32], counts: &mut [u32]) -> u32 {
+/// The tally, its six counts into the places if there are as many: 0 or a refusal.
+pub fn count(sheet: &Sheet, words: &[u32], places: &mut [u32]) -> u32 {
+    let numbers = sheet.numbers();
     let (start, length) = (words.as_ptr(), words.len());
-    let (into, room) = (counts.as_mut_ptr(), counts.len());
-    // SAFETY: the words can be read and the room can be written while they are lent.
-    unsafe { archive::bulk_count(start, length, into, room) }
+    let (into, room) = (places.as_mut_ptr(), places.len());
+    // SAFETY: the sheet's numbers and the words can be read, and the places written, while they are lent.
+    unsafe { archive::bulk_count(numbers.as_ptr(), start, length, into, room) }
 }
 
 /// The length in time of so many words, into two places: 0 or a refusal.

@@ -1,6 +1,6 @@
 //! The cases, and what they promise to meet.
 
-use crate::run::Run;
+use crate::run::{refusals, Run};
 use reference::both::Both;
 use reference::counts::LONGEST_TALLY;
 use reference::coverage::Coverage;
@@ -23,19 +23,13 @@ pub const LENGTHS: [(usize, &str); 4] = [
 /// A word that may not go low, CS being low.
 pub const LOW_CS: u32 = 0;
 
-/// The calls that take a sheet.
+/// The calls that judge a trace.
 const CALLS: [&str; 3] = ["check", "walk", "walk again"];
 
-/// What a call with a sheet must meet with a wiring; the longest walks are for eight banks alone.
+/// What such a call must meet with a wiring; the longest walks are for eight banks alone.
 fn promised_of(call: &str, wiring: u32) -> Vec<String> {
     let name = |length, what: &str| format!("{call}, {length}, {}: {what}", wiring::name(wiring));
-    let mut promised = Vec::new();
-    for number in [20, 21, 22, 33] {
-        let refused = format!("refused {number}");
-        promised.push(name("short", &refused));
-        promised.extend(LENGTHS.map(|(_, length)| name(length, &refused)));
-    }
-    promised.push(name("short", "no fault"));
+    let mut promised = vec![name("short", "no fault")];
     match call {
         "walk again" => promised.push(name("short", "refused 23")),
         _ => promised.extend(RULES.map(|n| name("short", &format!("breach {n}")))),
@@ -58,22 +52,18 @@ fn promised_of(call: &str, wiring: u32) -> Vec<String> {
     promised
 }
 
-/// What the calls must meet on a sheet of no wiring.
-fn promised_without() -> Vec<String> {
-    let lengths = LENGTHS.map(|(_, name)| name);
-    let mut promised = Vec::new();
-    for call in CALLS {
-        let name = |length| format!("{call}, {length}, {}: refused 34", wiring::name(0));
-        promised.push(name("short"));
-        promised.extend(lengths.map(name));
-    }
-    promised
+/// What a call must meet on refused sheets, at every length.
+pub fn promised_refusals(call: &str) -> Vec<String> {
+    let long = LENGTHS.iter().map(|(_, length)| *length);
+    let lengths = std::iter::once("short").chain(long);
+    lengths.flat_map(|length| refusals(call, length)).collect()
 }
 
 /// What a run must meet.
 pub fn promised() -> Vec<String> {
-    let mut promised = promised_without();
+    let mut promised = Vec::new();
     for call in CALLS {
+        promised.extend(promised_refusals(call));
         promised.extend(WIRINGS.map(|wiring| promised_of(call, wiring)).concat());
     }
     // An early breach ends a walk before 24 is due.
@@ -86,10 +76,6 @@ pub fn promised() -> Vec<String> {
     let on =
         |length: String| WIRINGS.map(|w| format!("check, {length}, {}: no fault", wiring::name(w)));
     promised.extend(asleep.flat_map(on));
-    let counted = ["short: no fault", "65,536 words: no fault"];
-    promised.extend(counted.map(|what| format!("count, {what}")));
-    let refused = LENGTHS[1..].iter();
-    promised.extend(refused.map(|(_, name)| format!("count, {name}: refused 30")));
     promised
 }
 
@@ -113,9 +99,9 @@ pub fn short(run: &mut Run, random: &Random) {
     }
     run.coverage.add(of_cases);
     for _ in 0..200 {
-        let words = tally::some_words(random);
-        tally::count(&mut run.coverage, &words);
-        run.all::<Both>(&pool::sheet(random), &words, "short");
+        let (sheet, words) = (pool::sheet(random), tally::some_words(random));
+        tally::count(&mut run.coverage, &sheet, &words);
+        run.all::<Both>(&sheet, &words, "short");
     }
     sheets::each_fault(random, 1, &mut |sheet| {
         let words = random.pick(&[&[][..], &[DESL], &[0]]);
@@ -172,6 +158,7 @@ fn with_sleeps(length: &str) -> String {
 fn on_both(run: &mut Run, words: &[u32], name: &str) {
     run.all::<Summary>(&SHEET_E, words, name);
     run.check::<Summary>(&SHEET_E_OF_FOUR, words, name);
+    run.count(&SHEET_E_OF_FOUR, words, name);
     if words.len() < LONGEST as usize {
         run.walks::<Summary>(&SHEET_E_OF_FOUR, words, name);
     }
@@ -182,5 +169,6 @@ fn refused_sheets(run: &mut Run, words: &[u32], name: &str) {
     for sheet in sheets::refused() {
         run.check::<Summary>(&sheet, words, name);
         run.walks::<Summary>(&sheet, words, name);
+        run.count(&sheet, words, name);
     }
 }

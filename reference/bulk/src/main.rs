@@ -9,6 +9,7 @@ mod last_clock;
 mod limits;
 mod limits_cases;
 mod run;
+mod tally;
 mod time;
 
 use reference::command_line::end;
@@ -30,6 +31,7 @@ fn main() {
     limits_cases::long(&mut run, &mut words);
     last_clock::each(&mut run);
     cases::sleeping(&mut run, &random);
+    tally::each(&mut run, &random);
     time::each(&mut run, &random);
     let seconds = start.elapsed().as_secs_f64();
     println!(
@@ -39,6 +41,7 @@ fn main() {
     let promised = [
         cases::promised(),
         limits_cases::promised(),
+        tally::promised(),
         time::promised(),
     ]
     .concat();

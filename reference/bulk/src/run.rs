@@ -1,13 +1,14 @@
 //! One comparison under way: calls the archive's functions, compares, counts.
 
-use crate::answers::{breach_of, check_number, count_numbers, meaning, walk_numbers};
+use crate::answers::{breach_of, check_number, meaning, walk_numbers};
 use crate::call;
 use reference::command_line::keep;
 use reference::coverage::Coverage;
 use reference::past::Past;
 use reference::script::bytes;
 use reference::sheet::Sheet;
-use reference::wiring;
+use reference::suites::sheets::REFUSALS;
+use reference::wiring::{self, WIRINGS};
 use std::process::exit;
 
 /// What stands in a place of the counts, of a sheet or of a time before a call.
@@ -21,13 +22,13 @@ pub struct Run {
 }
 
 impl Run {
-    /// Compares all calls on a trace, which is left as it was. Answers are counted by its length's name,
-    /// and by the wiring where there is a sheet.
+    /// Compares all calls on a trace, which is left as it was. Answers are counted by its length's name and
+    /// by the wiring.
     pub fn all<P: Past>(&mut self, sheet: &Sheet, words: &[u32], length: &str) {
         let before = words.to_vec();
         self.check::<P>(sheet, words, length);
         self.walks::<P>(sheet, words, length);
-        self.count(words, length);
+        self.count(sheet, words, length);
         if before != words {
             fail(
                 "all calls",
@@ -54,25 +55,8 @@ impl Run {
         self.settle("walk again", &length, words, again, got);
     }
 
-    /// Compares the tally, with room for the five counts, for more and for less.
-    fn count(&mut self, words: &[u32], length: &str) {
-        let (wanted, five) = count_numbers(words);
-        for room in [5, 6, 9, 4, 0] {
-            let mut counts = vec![UNTOUCHED; room];
-            let got = call::count(words, &mut counts);
-            let mut left = vec![UNTOUCHED; room];
-            if room >= 5 {
-                left[..5].copy_from_slice(&five);
-            }
-            if counts != left {
-                fail("count", words, &format!("{left:?}"), &format!("{counts:?}"));
-            }
-            self.settle("count", length, words, wanted.into(), got.into());
-        }
-    }
-
     /// Compares two answers and counts them. A difference ends the program.
-    fn settle(&mut self, call: &str, length: &str, words: &[u32], wanted: u64, got: u64) {
+    pub fn settle(&mut self, call: &str, length: &str, words: &[u32], wanted: u64, got: u64) {
         if wanted != got {
             fail(call, words, &meaning(wanted), &meaning(got));
         }
@@ -91,6 +75,19 @@ impl Run {
         };
         self.coverage.meet(&format!("{call}, {length}: {name}"));
     }
+}
+
+/// Names of the sheet's own refusals of a call at a length, of which 34 is for a wiring that there is not.
+pub fn refusals(call: &str, length: &str) -> Vec<String> {
+    let name = |number, wiring| {
+        let banks = wiring::name(wiring);
+        format!("{call}, {length}, {banks}: refused {number}")
+    };
+    let of = |number| match number {
+        34 => vec![name(34, 0)],
+        _ => WIRINGS.map(|wiring| name(number, wiring)).to_vec(),
+    };
+    REFUSALS.into_iter().flat_map(of).collect()
 }
 
 /// The name of a length, with the wiring of the sheet.

@@ -3,7 +3,7 @@
 
 use crate::answers::meaning;
 use crate::call;
-use crate::run::{on, report, Run, UNTOUCHED};
+use crate::run::{on, refusals, report, Run, UNTOUCHED};
 use reference::judge::LONGEST;
 use reference::random::Random;
 use reference::sheet::{Sheet, SHEET_E};
@@ -56,11 +56,8 @@ pub fn promised() -> Vec<String> {
         promised.extend(ALLOWED.map(|(_, count)| name(count, wiring, 0)));
         promised.extend(ABOVE.map(|(_, count)| name(count, wiring, 32)));
     }
-    for (_, count) in counts() {
-        let refused = |number| WIRINGS.map(|wiring| name(count, wiring, number));
-        promised.extend([20, 21, 22, 33].map(refused).concat());
-        promised.push(name(count, 0, 34));
-    }
+    let of_sheets = counts().into_iter();
+    promised.extend(of_sheets.flat_map(|(_, count)| refusals(CALL, count)));
     promised
 }
 

@@ -1,6 +1,6 @@
 //! The examiner, step by step, whole and as a walk, and the counts: codes 2, 3, 8 and 10.
 
-use super::{breaches, by_hand, long, names, near, pool, refusals, runs, sheets, tally};
+use super::{breaches, by_hand, data, long, names, near, pool, refusals, runs, sheets, tally};
 use crate::coverage::Coverage;
 use crate::judge::{check, Verdict};
 use crate::past::Past;
@@ -20,6 +20,7 @@ pub fn promised() -> Vec<String> {
         breaches(&[2, 3, 10]),
         refusals(2, "refused"),
         refusals(3, "refused"),
+        refusals(8, "refused"),
         refusals(10, "refused"),
         names(2, &["pass", "refused 23", "refused 24"]),
         names(3, &["accepted"]),
@@ -30,6 +31,8 @@ pub fn promised() -> Vec<String> {
     promised.push("walk over an unfinished pair".to_string());
     promised.extend(near::promised());
     promised.extend(tally::promised());
+    promised.extend(data::promised_of_tallies());
+    promised.extend(sheets::promised_order());
     promised.extend(pool::parts().iter().flat_map(by_hand::promised));
     promised.extend(WIRINGS.map(runs::promised).concat());
     promised
@@ -61,14 +64,7 @@ pub fn cases(seed: u64, scale: u32, packer: &mut Packer, coverage: &mut Coverage
         judged(&random, packer, coverage, &sheet, &words);
         judged(&random, packer, coverage, &sheet, &[]);
     }
-    for _ in 0..200 * scale {
-        let words = tally::some_words(&random);
-        tally::count(coverage, &words);
-        packer.group(&[
-            pool::config(&random, &pool::sheet(&random)),
-            Call::Count(words),
-        ]);
-    }
+    tally::cases(&random, scale, packer, coverage);
     for _ in 0..4 * scale {
         long::dense(&random, packer);
     }

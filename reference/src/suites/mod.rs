@@ -1,10 +1,12 @@
 //! The suites: generators of scripts, each with the answers that it promises to meet.
 
+mod answered;
 pub mod ba2;
 pub mod by_hand;
 pub mod checker;
 pub mod controller;
 mod damage;
+pub mod data;
 mod ending;
 mod held;
 pub mod limits;
@@ -64,14 +66,14 @@ pub const SUITES: [Suite; 9] = [
         seed: 0x5EED_0001,
         cases: pairs::cases,
         promised: pairs::promised,
-        promise: None,
+        promise: Some(data::check),
     },
     Suite {
         name: "checker",
         seed: 0x5EED_0002,
         cases: checker::cases,
         promised: checker::promised,
-        promise: None,
+        promise: Some(data::check),
     },
     Suite {
         name: "controller",
@@ -92,7 +94,7 @@ pub const SUITES: [Suite; 9] = [
         seed: 0x5EED_0008,
         cases: states::cases,
         promised: states::promised,
-        promise: None,
+        promise: Some(data::check),
     },
     Suite {
         name: "relaxed",

@@ -1,6 +1,6 @@
 //! Sheets, and pairs read and written: codes 1, 13, 6 and 7.
 
-use super::{configs, names, pool, ranges, refusals, sheets};
+use super::{configs, data, names, pool, ranges, refusals, sheets};
 use crate::coverage::Coverage;
 use crate::pair::{self, column_pins, Kind, Operation};
 use crate::random::Random;
@@ -18,6 +18,7 @@ pub fn promised() -> Vec<String> {
         configs(),
         refusals(6, "refused"),
         names(6, &read),
+        data::promised_of_pairs(),
         refusals(7, "refused"),
         names(7, &write),
         ranges::promised(7),

@@ -34,6 +34,12 @@ pub const SPOILED: [(usize, u32, u32); 5] = [
     (9, 17, 33),
 ];
 
+/// Sheet E for each of these refusals, with that fault and those of all later ones.
+pub fn all_spoiled() -> [Sheet; SPOILED.len()] {
+    let spoil = |sheet: Sheet, field: &(usize, u32, u32)| sheet.with(field.0, field.1);
+    std::array::from_fn(|first| SPOILED[first..].iter().fold(SHEET_E, spoil))
+}
+
 /// The sheet's own refusals, in the order in which they are tried.
 pub const REFUSALS: [u32; 5] = [20, 34, 21, 22, 33];
 

@@ -6,10 +6,11 @@ use trace::{Given, PERIODS};
 
 pub const USAGE: &str = "usage:
   trace assemble [--wiring 4|8] [TEXT [TRACE]]                                    from text to words
-  trace list [--bl 2|4] [--organisation 8|16] [--wiring 4|8] [--period PS] [--force] [TRACE [TEXT]]
+  trace list [--bl 2|4] [--organisation 8|16] [--wiring 4|8] [--period PS] [--data] [--cl 3|4|5] [--force] [TRACE [TEXT]]
                                                                                   from words to text
   trace --help | --version
 A file that is left out, or is -, is standard input or output. BL 4, by 16, eight banks, 5000 ps unless given; PS is from 3750 to 8500.
+With --data or --cl each LAL has the clocks of its data behind it, at CL 4 unless given.
 Where the input of list is text, and no trace, it is listed with --force alone.";
 
 /// What the arguments ask for.
@@ -24,6 +25,9 @@ pub struct Call {
     pub listing: bool,
     pub given: Given,
     pub period: Option<u32>,
+    /// Whether data are shown; they are too where a CL is given.
+    pub data: bool,
+    pub cl: Option<u32>,
     /// Whether text is listed too.
     pub force: bool,
     pub input: OsString,
@@ -51,6 +55,8 @@ fn call(listing: bool, arguments: &[OsString]) -> Option<Call> {
         listing,
         given: Given::default(),
         period: None,
+        data: false,
+        cl: None,
         force: false,
         input: STANDARD.into(),
         output: STANDARD.into(),
@@ -62,11 +68,14 @@ fn call(listing: bool, arguments: &[OsString]) -> Option<Call> {
             files.push(argument.clone());
             continue;
         }
-        if argument == "--force" && listing && !call.force {
-            call.force = true;
+        let name = argument.to_str()?;
+        if let Some(place) = flag(name, &mut call) {
+            if std::mem::replace(place, true) {
+                return None;
+            }
             continue;
         }
-        let (place, fits) = option(argument.to_str()?, &mut call)?;
+        let (place, fits) = option(name, &mut call)?;
         let value = number(arguments.next()?).filter(fits)?;
         if place.replace(value).is_some() {
             return None;
@@ -78,10 +87,20 @@ fn call(listing: bool, arguments: &[OsString]) -> Option<Call> {
     files.next().is_none().then_some(call)
 }
 
+/// The place of an option that has no value; none if the command has no such option.
+fn flag<'a>(name: &str, call: &'a mut Call) -> Option<&'a mut bool> {
+    match name {
+        "--data" if call.listing => Some(&mut call.data),
+        "--force" if call.listing => Some(&mut call.force),
+        _ => None,
+    }
+}
+
 /// The place of an option's value, and which values there are; none if the command has no such option.
 fn option<'a>(name: &str, call: &'a mut Call) -> Option<(&'a mut Option<u32>, fn(&u32) -> bool)> {
     let (place, fits): (_, fn(&u32) -> bool) = match name {
         "--bl" if call.listing => (&mut call.given.bl, |n| [2, 4].contains(n)),
+        "--cl" if call.listing => (&mut call.cl, |n| [3, 4, 5].contains(n)),
         "--organisation" if call.listing => (&mut call.given.organisation, |n| [8, 16].contains(n)),
         "--period" if call.listing => (&mut call.period, |n| PERIODS.contains(n)),
         "--wiring" => (&mut call.given.wiring, |n| [4, 8].contains(n)),

@@ -2,6 +2,7 @@
 
 mod assemble;
 mod command;
+mod data;
 mod fields;
 mod format;
 mod kind;
@@ -16,6 +17,7 @@ mod time;
 mod warning;
 
 pub use assemble::{assemble, Assembled, Failure};
+pub use data::CL;
 pub use format::{Format, Given};
 pub use lines::{LONGEST_LINE, LONGEST_TEXT};
 pub use list::list;

@@ -3,8 +3,8 @@
 use crate::LONGEST;
 use std::io::{self, BufRead, Read, Take};
 
-/// The most bytes of a text: 64 for each word of the longest trace, more than a listing has.
-pub const LONGEST_TEXT: u64 = 64 * LONGEST;
+/// The most bytes of a text: 80 for each word of the longest trace, more than a listing has, with data too.
+pub const LONGEST_TEXT: u64 = 80 * LONGEST;
 
 /// The most bytes of a line, without its line feed.
 pub const LONGEST_LINE: u64 = 1 << 20;

@@ -1,6 +1,7 @@
 //! From words to text.
 
 use crate::command::Command;
+use crate::data::data;
 use crate::format::Format;
 use crate::kind::{open_after, opens, Kind};
 use crate::pins::{high, PD};
@@ -10,9 +11,15 @@ use std::io::{self, Write};
 /// Equal words that open and close pairs in turn are named one by one up to this number.
 const NAMED_IN_TURN: u64 = 4;
 
-/// Lists the trace in a file's bytes, and says at the end how long its words last; assembled again, the
-/// text gives the same bytes.
-pub fn list(bytes: &[u8], format: Format, period: u32, out: &mut impl Write) -> io::Result<()> {
+/// Lists the trace in a file's bytes, with the clocks of data if a CL is given, and says at the end how long its words last; assembled
+/// again, the text gives the same bytes.
+pub fn list(
+    bytes: &[u8],
+    format: Format,
+    cl: Option<u32>,
+    period: u32,
+    out: &mut impl Write,
+) -> io::Result<()> {
     let words = bytes.chunks_exact(4);
     let rest = words.remainder();
     let words: Vec<u32> = words
@@ -21,6 +28,7 @@ pub fn list(bytes: &[u8], format: Format, period: u32, out: &mut impl Write) -> 
     heading(words.len(), format, out)?;
     let mut lister = Lister {
         format,
+        cl,
         first: None,
         clock: 0,
         out,
@@ -51,16 +59,26 @@ fn heading(words: usize, format: Format, out: &mut impl Write) -> io::Result<()>
 }
 
 /// What a bare word is: its kind, and whether it closes a pair with PD low.
-fn note(kind: Kind, word: u32) -> String {
+fn bare(kind: Kind, word: u32) -> String {
     match kind == Kind::PowerDown || high(word, PD) {
         true => kind.name().to_string(),
         false => format!("{}, PD low", kind.name()),
     }
 }
 
+/// So many clocks from a first one on.
+fn clocks(first: u64, count: u64) -> String {
+    match count {
+        1 => first.to_string(),
+        _ => format!("{first} to {}", first + count - 1),
+    }
+}
+
 /// The place in the trace.
 struct Lister<'a, W> {
     format: Format,
+    /// The CL that data go by, where they are shown.
+    cl: Option<u32>,
     /// The first word of the open pair.
     first: Option<u32>,
     clock: u64,
@@ -89,30 +107,35 @@ impl<W: Write> Lister<'_, W> {
         Ok(())
     }
 
-    /// Lists one word, or many that are no part of any pair.
+    /// Lists one word, or many that are no part of any pair. A LAL stands alone, and so has data of its own.
     fn same(&mut self, word: u32, count: u64) -> io::Result<()> {
         let kind = Kind::of(self.first, word);
-        self.line(kind.read(self.format, word), count, &note(kind, word))
+        let command = kind.read(self.format, word);
+        let mut note = clocks(self.clock, count);
+        if matches!(command, Command::Word(_)) {
+            note += &format!(", {}", bare(kind, word));
+        }
+        let shown = |cl| data(kind, self.clock, cl, self.format.bl);
+        if let Some((first, count)) = self.cl.and_then(shown) {
+            note += &format!(", data {}", clocks(first, count));
+        }
+        self.line(command, count, &note)
     }
 
     /// Lists many equal words that open and close pairs, from an opening one on.
     fn in_turn(&mut self, word: u32, count: u64) -> io::Result<()> {
         let opening = Kind::of(None, word).name();
         let closing = Kind::of(Some(word), word).name();
-        let note = format!("{opening} and {closing} in turn");
+        let clocks = clocks(self.clock, count);
+        let note = format!("{clocks}, {opening} and {closing} in turn");
         self.line(Command::Word(word), count, &note)
     }
 
-    /// Writes a line: the command, how often, and in a comment its clocks and what a bare word is.
-    fn line(&mut self, command: Command, count: u64, kind: &str) -> io::Result<()> {
+    /// Writes a line: the command, how often, and a comment.
+    fn line(&mut self, command: Command, count: u64, note: &str) -> io::Result<()> {
         let mut text = command.to_string();
-        let mut note = self.clock.to_string();
         if count > 1 {
             text += &format!(" x {count}");
-            note += &format!(" to {}", self.clock + count - 1);
-        }
-        if matches!(command, Command::Word(_)) {
-            note += &format!(", {kind}");
         }
         self.clock += count;
         self.first = open_after(self.first, command.word(), count);

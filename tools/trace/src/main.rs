@@ -10,7 +10,7 @@ use files::{Input, Output, STANDARD};
 use std::ffi::OsString;
 use std::io::{self, BufReader, Write};
 use std::process::ExitCode;
-use trace::{assemble, is_text, list, Failure, LONGEST, PERIOD};
+use trace::{assemble, is_text, list, Failure, CL, LONGEST, PERIOD};
 
 fn main() -> ExitCode {
     let arguments: Vec<OsString> = std::env::args_os().skip(1).collect();
@@ -76,7 +76,8 @@ fn run_list(call: &Call, input: &Input, output: &Output) -> Result<(), String> {
         ));
     }
     let period = call.period.unwrap_or(PERIOD);
-    output.write(|out| list(&bytes, call.given.format(), period, out))
+    let cl = call.cl.or(call.data.then_some(CL));
+    output.write(|out| list(&bytes, call.given.format(), cl, period, out))
 }
 
 /// From text to words.

@@ -2,7 +2,7 @@
 
 mod common;
 
-use common::{assembled, good_as, listing, wired};
+use common::{assembled, good_as, listing, listing_data, wired};
 use std::path::Path;
 use std::process::Command;
 use trace::Format;
@@ -40,6 +40,17 @@ fn power_down() {
         assert_eq!(text, block("listing-power-down"));
     }
     assert_eq!(assembled(block("listing-power-down")), trace);
+}
+
+#[test]
+fn data() {
+    let trace = assembled(block("data"));
+    let text = block("listing-data");
+    assert_eq!(listing_data(&trace, Format::default(), 4), text);
+    assert_eq!(assembled(text), trace);
+    let at_cl_3 = text.replacen("5 to 6", "4 to 5", 1);
+    let at_cl_3 = at_cl_3.replacen("9 to 10", "8 to 9", 1);
+    assert_eq!(listing_data(&trace, Format::default(), 3), at_cl_3);
 }
 
 #[test]

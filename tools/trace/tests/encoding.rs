@@ -2,8 +2,9 @@
 
 mod common;
 
-use common::{bytes, formats, good_as, last_line, listing};
-use reference::pair::{read, write, Operation, Request};
+use common::{bytes, formats, good_as, last_line, listing, listing_data};
+use reference::data::DataClocks;
+use reference::pair::{read, write, Operation, Reading, Request};
 use reference::random::Random;
 use reference::sheet::{Sheet, SHEET_E};
 use trace::Format;
@@ -108,7 +109,17 @@ fn operations() {
     }
 }
 
-/// Any pair that is listed without a bare word stands for what the reference reads it to.
+/// What is said of data behind the LAL at clock 1.
+fn shown(data: DataClocks) -> String {
+    let first = 1 + data.latency;
+    match data.length {
+        0 => String::new(),
+        1 => format!(", data {first}"),
+        length => format!(", data {first} to {}", first + length - 1),
+    }
+}
+
+/// Any pair that is listed without a bare word stands for what the reference reads it to; with one too it has the same data.
 #[test]
 fn pairs() {
     let random = Random::new(SEED + 1);
@@ -118,10 +129,15 @@ fn pairs() {
             let sheet = sheet(&random, format);
             let first = 0x80000 | random.pick(&[0, 0, 0x20000]) | random.below(1 << 17);
             let second = 0x80000 | random.bits() & random.bits() & 0x7FFFF;
-            let text = listing(&bytes(&[first, second]), format);
-            let Ok(operation) = read(&sheet, first, second) else {
+            let words = bytes(&[first, second]);
+            let text = listing(&words, format);
+            let Ok(Reading { operation, data }) = read(&sheet, first, second) else {
                 continue;
             };
+            let with_data = listing_data(&words, format, sheet.cl);
+            let [plain, with_data] = [&text, &with_data].map(|text| text.lines().nth_back(1));
+            let wanted = plain.map(|line| line.to_string() + &shown(data));
+            assert_eq!(with_data, wanted.as_deref());
             if text.contains("WORD") || matches!(operation, Operation::Refresh) {
                 continue;
             }

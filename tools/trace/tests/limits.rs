@@ -2,7 +2,7 @@
 
 mod common;
 
-use common::{bytes, faults, listing, piped, run, said};
+use common::{bytes, faults, listing, listing_data, piped, run, said};
 use std::io::{self, BufRead, Read, Write};
 use std::process::Command;
 use trace::{assemble, Format, LONGEST, LONGEST_LINE, LONGEST_TEXT};
@@ -41,20 +41,35 @@ impl Read for Endless {
 /// The lines before the one that is named are the longest text, to the byte.
 #[test]
 fn a_text() {
-    assert_eq!(LONGEST_TEXT, 4096 * LONGEST_LINE);
-    let wanted = "t:4097: the text is longer than 4294967296 bytes";
+    assert_eq!(LONGEST_TEXT, 5120 * LONGEST_LINE);
+    let wanted = "t:5121: the text is longer than 5368709120 bytes";
     assert_eq!(faults(comments()), [wanted]);
 }
 
-/// A word's line in a listing keeps to the word's share of the longest text.
+/// The most bytes of a listing's line whose clocks have one digit here, and eight at most.
+fn at_most(line: &str) -> usize {
+    let (_, note) = line.split_once(" # ").expect("the clocks are there");
+    let clocks = note
+        .split([' ', ','])
+        .filter(|clock| clock.parse::<u64>().is_ok());
+    line.len() + 7 * clocks.count() + 1
+}
+
+/// A word's line in a listing keeps to the word's share of the longest text; a LAL's with data does so together with the line before it.
 #[test]
 fn a_listing() {
     let share = (LONGEST_TEXT / LONGEST) as usize;
-    for word in (0..1 << 20).step_by(61).chain([u32::MAX]) {
-        for first in [0xC0000, 0xA0000, 0x80000] {
-            let text = listing(&bytes(&[first, word]), Format::default());
-            // The clocks have one digit here and eight at most.
-            assert!(text.lines().all(|line| line.len() + 8 <= share), "{text}");
+    for word in (0..1 << 20).step_by(61).chain([u32::MAX, !(1 << 19)]) {
+        for first in [0xC0000, 0xA0000, 0x80000, 0xFFF8_0000] {
+            let words = bytes(&[first, word]);
+            let lengths = |text: &str| -> Vec<usize> {
+                let lines = text.lines().filter(|line| line.contains(" # "));
+                lines.map(at_most).collect()
+            };
+            let plain = lengths(&listing(&words, Format::default()));
+            assert!(plain.iter().all(|length| *length <= share), "{word:#X}");
+            let with_data = lengths(&listing_data(&words, Format::default(), 4));
+            assert!(with_data.iter().sum::<usize>() <= 2 * share, "{word:#X}");
         }
     }
 }

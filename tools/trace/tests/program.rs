@@ -138,7 +138,7 @@ fn usage_and_version() {
 
 #[test]
 fn wrong_arguments() {
-    let calls: [&[&str]; 28] = [
+    let calls: [&[&str]; 36] = [
         &[],
         &["print"],
         &["assemble", "a", "b", "c"],
@@ -146,7 +146,15 @@ fn wrong_arguments() {
         &["list", "--bl"],
         &["list", "--bl", "3"],
         &["list", "--organisation", "4"],
-        &["list", "--cl", "4"],
+        &["list", "--cl"],
+        &["list", "--cl", "2"],
+        &["list", "--cl", "6"],
+        &["list", "--cl", "04"],
+        &["list", "--cl", "4", "--cl", "4"],
+        &["list", "--cl", "3", "--data", "--cl", "5"],
+        &["list", "--data", "--data"],
+        &["assemble", "--data"],
+        &["assemble", "--cl", "4"],
         &["list", "--bl", "2", "--bl", "2"],
         &["list", "--wiring"],
         &["list", "--wiring", "5"],
@@ -173,5 +181,6 @@ fn wrong_arguments() {
         assert_eq!(status, Some(2), "{arguments:?}");
         assert!(what.starts_with("usage:"));
         assert_eq!(what.matches("[--wiring 4|8]").count(), 2);
+        assert_eq!(what.matches("[--data] [--cl 3|4|5]").count(), 1);
     }
 }

@@ -13,13 +13,13 @@ use Rattle.counts.proofs.counts_of.Statement.{statement}
 use Rattle.counts.proofs.counts_of.Tie as tie
 
 abbrev Inv-loop : tie.InvT-loop
-Inv-loop words counts₀ at₀ counts at = Tallying words at counts
+Inv-loop timing words counts₀ at₀ counts at = Tallying timing words at counts
 
 abbrev μ-loop : tie.MeasureT-loop
-μ-loop words counts₀ at₀ counts at = length words - at
+μ-loop timing words counts₀ at₀ counts at = length words - at
 
 loop-holds : tie.Need-loop-holds Inv-loop μ-loop
-loop-holds c = begins (now (c .before .args .words))
+loop-holds c = begins (c .before .args .timing) (now (c .before .args .words)) (omega arith)
 
 turn-requires : tie.Need-turn-requires Inv-loop μ-loop
 turn-requires c κs = search needs

@@ -1,4 +1,4 @@
--- The configuration's refusal, 28, or the operation.
+-- The configuration's refusal, 28, or the operation with its clocks.
 use borrow.Author.Needs.{needs}
 use Rattle.reading.proofs.read_pair.Statement.{statement}
 use Rattle.reading.proofs.read_pair.Tie as tie

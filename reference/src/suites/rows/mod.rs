@@ -1,6 +1,7 @@
 //! The published rows: calls with the lines that answer them, on both edges, worked out from the papers.
 //! The tests hold the reference to each line, and this suite holds what a program wrote to the same.
 
+mod data;
 mod limits;
 mod power_down;
 mod relaxed;
@@ -74,7 +75,7 @@ const fn of_part(cl: u32, bl: u32) -> Sheet {
 const BY_8: Sheet = Sheet { org: 8, ..SHEET_E };
 
 /// The rows by what they are about.
-pub fn parts() -> [(&'static str, Vec<Row>); 6] {
+pub fn parts() -> [(&'static str, Vec<Row>); 7] {
     [
         ("rule 3", rule_3::rows()),
         ("wiring", wiring::rows()),
@@ -82,6 +83,7 @@ pub fn parts() -> [(&'static str, Vec<Row>); 6] {
         ("relaxed", relaxed::rows()),
         ("limits", limits::rows()),
         ("time", time::rows()),
+        ("data", data::rows()),
     ]
 }
 

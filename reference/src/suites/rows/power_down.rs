@@ -67,9 +67,9 @@ const BARE: [Check; 16] = [
 /// The tally (RULES 9.1): low words are DESL and open nothing; one closes a pair, and a wake-up word may
 /// open one.
 const TALLY: [(&[u32], &str); 3] = [
-    (&[LOW, 0], "counts 0 0 0 0 2"),
-    (&[RDA, LOW], "counts 1 0 0 0 0"),
-    (&[LOW, RDA, DESL], "counts 1 0 0 0 1"),
+    (&[LOW, 0], "counts 0 0 0 0 2 0"),
+    (&[RDA, LOW], "counts 1 0 0 0 0 2"),
+    (&[LOW, RDA, DESL], "counts 1 0 0 0 1 2"),
 ];
 
 /// The rows.

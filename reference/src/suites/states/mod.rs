@@ -10,8 +10,9 @@ mod meet;
 mod phases;
 mod places;
 mod run;
+mod tallies;
 
-use super::{breaches, by_wiring, names, pool, refusals, tally};
+use super::{breaches, by_wiring, names, refusals};
 use crate::coverage::Coverage;
 use crate::ground::{Ground, LATE_CLOCK, NO_REQUEST, OPEN_AT_0, TOO_MANY};
 use crate::ground::{ASLEEP_AT_0, WAKE_UP_AT_0, WAKE_UP_AT_1};
@@ -51,7 +52,7 @@ pub fn promised() -> Vec<String> {
     for state in ["checker", "controller"] {
         promised.extend(by_wiring(&forge::rewired_name(state)));
     }
-    promised.extend(tally::promised());
+    promised.extend(tallies::promised());
     promised.push("script refused".to_string());
     promised
 }
@@ -64,7 +65,6 @@ fn answers() -> Vec<String> {
         names(108, &["pass", "end", "refused 19", "refused 23"]),
         names(103, &["checker"]),
         names(104, &["controller"]),
-        names(107, &["counts 0"]),
     ]
     .concat();
     for code in [2, 4, 5, 11, 12, 108] {
@@ -123,18 +123,8 @@ pub fn cases(seed: u64, scale: u32, packer: &mut Packer, coverage: &mut Coverage
         checkers::near_real(&random, packer, coverage);
         controllers::near_real(&random, packer, coverage);
     }
-    tallies(&random, packer, coverage);
+    tallies::each(&random, packer, coverage);
     cut_short(packer);
-}
-
-/// Words at random, counted with the refusal's number beside the counts.
-fn tallies(random: &Random, packer: &mut Packer, coverage: &mut Coverage) {
-    for _ in 0..200 {
-        let words = tally::some_words(random);
-        tally::count(coverage, &words);
-        let config = pool::config(random, &pool::sheet(random));
-        packer.group(&[config, Call::CountAnyway(words)]);
-    }
 }
 
 /// Scripts that end inside each of these calls, and numbers that name no call.

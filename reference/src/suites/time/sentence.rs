@@ -4,19 +4,14 @@
 use super::meet;
 use crate::judge::LONGEST;
 use crate::script::Call;
-use crate::sheet::{Sheet, SHEET_E};
-use std::iter::Peekable;
-use std::str::Lines;
+use crate::sheet::Sheet;
+use crate::suites::answered::answered;
 
 /// Checks each line that answers for a length in time. Gives names for the coverage, or the call at fault
 /// and what is wrong with its line.
 pub fn check(calls: &[Call], text: &str) -> Result<Vec<String>, (usize, String)> {
-    let mut lines = text.lines().peekable();
-    let mut sheet = SHEET_E;
     let mut seen = Vec::new();
-    for (place, call) in calls.iter().enumerate() {
-        sheet = call.sheet().unwrap_or(sheet);
-        let line = last_line(call, &mut lines).unwrap_or("(no line)");
+    for (place, (sheet, call, line)) in answered(calls, text).enumerate() {
         if let Call::Time(count) = *call {
             if let Some(fault) = fault(&sheet, count, line) {
                 return Err((place, fault));
@@ -25,21 +20,6 @@ pub fn check(calls: &[Call], text: &str) -> Result<Vec<String>, (usize, String)>
         }
     }
     Ok(seen)
-}
-
-/// Takes the lines of a call, and gives the last of them that tells how it ended, if it writes any.
-fn last_line<'a>(call: &Call, lines: &mut Peekable<Lines<'a>>) -> Option<&'a str> {
-    match call {
-        Call::PutChecker(_) | Call::PutController(_) => None,
-        Call::Tick(_) | Call::TickLent(_) => lines.find(|line| !line.starts_with("word ")),
-        Call::Walk(_) => lines.nth(1),
-        Call::Waiting => {
-            let line = lines.next();
-            while lines.next_if(|line| line.starts_with("request ")).is_some() {}
-            line
-        }
-        _ => lines.next(),
-    }
 }
 
 /// What is wrong with a line. The sheet's refusal is due, or else 32 for too many words, or else a time:

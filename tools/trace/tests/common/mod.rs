@@ -42,8 +42,18 @@ pub fn listing(bytes: &[u8], format: Format) -> String {
 
 /// The listing of bytes, with a period.
 pub fn listing_at(bytes: &[u8], format: Format, period: u32) -> String {
+    listed(bytes, format, None, period)
+}
+
+/// The listing of bytes with data, for a CL.
+pub fn listing_data(bytes: &[u8], format: Format, cl: u32) -> String {
+    listed(bytes, format, Some(cl), PERIOD)
+}
+
+/// The listing of bytes, as `list` gives it.
+fn listed(bytes: &[u8], format: Format, cl: Option<u32>, period: u32) -> String {
     let mut text = Vec::new();
-    list(bytes, format, period, &mut text).expect("memory takes all text");
+    list(bytes, format, cl, period, &mut text).expect("memory takes all text");
     String::from_utf8(text).expect("a listing is text")
 }
 

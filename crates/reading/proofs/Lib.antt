@@ -1,0 +1,2 @@
+-- The clocks of a pair's data.
+pub mod Data
