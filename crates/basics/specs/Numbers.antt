@@ -21,23 +21,23 @@ use Rattle.basics.specs.declared.refusal.Refusal.TheVariants.{
 }
 
 -- the number behind the dot in section 6 of RULES
-abbrev pub refusalNumber : Refusal → ℕ
-refusalNumber State = 19
-refusalNumber Part = 20
-refusalNumber Period = 21
-refusalNumber Count = 22
-refusalNumber InBreach = 23
-refusalNumber ClockLimit = 24
-refusalNumber InputSize = 25
-refusalNumber Field = 26
-refusalNumber QueueFull = 27
-refusalNumber NotAPair = 28
-refusalNumber PartialWord = 29
-refusalNumber TooLong = 30
-refusalNumber WordCount = 32
-refusalNumber ShortRefresh = 33
-refusalNumber Wiring = 34
-refusalNumber Limits = 35
+abbrev pub refusal_number : Refusal → ℕ
+refusal_number State = 19
+refusal_number Part = 20
+refusal_number Period = 21
+refusal_number Count = 22
+refusal_number InBreach = 23
+refusal_number ClockLimit = 24
+refusal_number InputSize = 25
+refusal_number Field = 26
+refusal_number QueueFull = 27
+refusal_number NotAPair = 28
+refusal_number PartialWord = 29
+refusal_number TooLong = 30
+refusal_number WordCount = 32
+refusal_number ShortRefresh = 33
+refusal_number Wiring = 34
+refusal_number Limits = 35
 
 -- the most words that a trace has, and the clock behind the last of them (RULES 5.3)
 abbrev pub limit : ℕ

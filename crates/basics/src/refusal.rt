@@ -1,6 +1,6 @@
 // The refusals of the whole product.
 ghost use Rattle.std.specs.Prelude.{◌≡◌};
-ghost use Rattle.basics.specs.Numbers.{refusalNumber};
+ghost use Rattle.basics.specs.Numbers.{refusal_number};
 
 #[derive(Drop)]
 pub enum Refusal {
@@ -41,7 +41,7 @@ pub enum Refusal {
 impl Refusal {
     // Its number in section 6 of RULES.
     pub fn number(self) -> u32
-        ensures { result ≡ refusalNumber self }
+        ensures { result ≡ refusal_number self }
     {
         match self {
             Refusal::State => 19,

@@ -53,9 +53,9 @@ Known T L x = Is (row T) x (LL.vals T L x)
 module _ {M : Type 1} {𝓤 : Ura M} {𝓛 : Logic 𝓤} {K : Type 0} where
   open 𝓛 use {H}
 
-  pub owned-data : K → {Γ : List (Item 𝓤)} {G : Goal 𝓤 H} (T : Declared) → Plains (fields T) → (x : T.D) (vs : List Val) → Is (row T) x vs
+  pub owned_data : K → {Γ : List (Item 𝓤)} {G : Goal 𝓤 H} (T : Declared) → Plains (fields T) → (x : T.D) (vs : List Val) → Is (row T) x vs
       → Step K 𝓛 (‵ ((row T).own_val x vs) ∷ Γ) G Γ G
-  owned-data t T pl x vs is = owned t (row T) (Is (row T)) (LL.makes T pl 𝓛) x vs is
+  owned_data t T pl x vs is = owned t (row T) (Is (row T)) (LL.makes T pl 𝓛) x vs is
 
   module _ {Γ : List (Item 𝓤)} {G : Goal 𝓤 H} {κ : Lft} {q : Share} {γ : GName} {b o : ℕ} where
     pub opened : K → Soaks G → (T : Declared) (L : LL.Laws T) (h : T.D)

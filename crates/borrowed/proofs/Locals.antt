@@ -128,10 +128,10 @@ module _ {M : Type 1} {𝓤 : Ura M} {𝓛 : Logic 𝓤} {K : Type 0} where
         → Opd K 𝓛 Γ E (copy (place i [])) v
     held t n e = load t (from t (stop t)) (look t n e)
 
-    pub held-field : K → (n : ℕ) {i k d : ℕ} {q : Share} {τ : Ty} {v : Val} {back : Val → Item 𝓤}
+    pub held_field : K → (n : ℕ) {i k d : ℕ} {q : Share} {τ : Ty} {v : Val} {back : Val → Item 𝓤}
         → field_of (spot_of 𝓤 H E i).0 k ≡ some (τ, d)
         → Part K 𝓛 (nth 𝓛 n Γ) q τ (spot_of 𝓤 H E i).1 (zero + d) v back → Opd K 𝓛 Γ E (copy (place i (field k ∷ []))) v
-    held-field t n e p = load t (from t (fld t e (stop t))) (look_in t n p)
+    held_field t n e p = load t (from t (fld t e (stop t))) (look_in t n p)
 
     module _ {C : Calls 𝓤 H} {Λ : Loops 𝓤 H} {q : Post 𝓤 H} where
       pub sets : K → (n : ℕ) {i : ℕ} {rv : RValue} {rest : Body} {v : Val}
@@ -141,8 +141,8 @@ module _ {M : Type 1} {𝓤 : Ura M} {𝓛 : Logic 𝓤} {K : Type 0} where
           Γ (runs C Λ E (seq (assign (place i []) rv) rest) q)
       sets t n e r wt = assigns t r (from t (stop t)) (init t n e wt)
 
-      pub lands-in : K → (n : ℕ) {i : ℕ} {rest : Body} {v : Val} → nth 𝓛 n Γ ≡ ‵ (froom (spot_of 𝓤 H E i).0 (spot_of 𝓤 H E i).1 zero)
+      pub lands_in : K → (n : ℕ) {i : ℕ} {rest : Body} {v : Val} → nth 𝓛 n Γ ≡ ‵ (froom (spot_of 𝓤 H E i).0 (spot_of 𝓤 H E i).1 zero)
           → Holds (has_ty (spot_of 𝓤 H E i).0 v) × WT v
           → Step K 𝓛 (put 𝓛 n (‵ (fat full_share (spot_of 𝓤 H E i).0 (spot_of 𝓤 H E i).1 zero v)) Γ) (runs C Λ E rest q)
           Γ (lands C Λ E (place i []) v rest q)
-      lands-in t n e wt = land t (from t (stop t)) (init t n e wt)
+      lands_in t n e wt = land t (from t (stop t)) (init t n e wt)

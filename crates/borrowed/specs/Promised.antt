@@ -1,14 +1,14 @@
 -- What the calls on a borrowed controller promise (RULES 8.8).
 use Rattle.std.specs.Prelude.{ℕ, ◌≡◌}
 use Rattle.command.specs.declared.operation.Request.{Request}
-use Rattle.controller.specs.Steps.{callOutcome, offerOf, tickOf}
+use Rattle.controller.specs.Steps.{call_outcome, offer_of, tick_of}
 use Rattle.controller.specs.declared.Controller.{Controller}
 use Rattle.controller.specs.declared.CallAnswer.{CallAnswer}
 
 -- what the contract of `offer` on a borrowed controller says: s stands behind the borrow before the call, and after it `after`
 abbrev pub OfferPromised : Controller → Request → CallAnswer → Controller → Type 0
-OfferPromised s q answer after = record { outcome = callOutcome answer; after = after } ≡ offerOf s q
+OfferPromised s q answer after = record { outcome = call_outcome answer; after = after } ≡ offer_of s q
 
 -- what that of `tick` says
 abbrev pub TickPromised : Controller → CallAnswer → ℕ → Controller → Type 0
-TickPromised s answer word after = record { outcome = callOutcome answer; word = word; after = after } ≡ tickOf s
+TickPromised s answer word after = record { outcome = call_outcome answer; word = word; after = after } ≡ tick_of s

@@ -3,7 +3,7 @@ mod power_down;
 
 ghost use Rattle.std.specs.Prelude.{◌≡◌, true, false, ◌+◌};
 ghost use Rattle.command.specs.Pairs.{lal};
-ghost use Rattle.rules.specs.Breaches.{near, notReady, tooClose, busy, closingBreach, wordBreach};
+ghost use Rattle.rules.specs.Breaches.{near, not_ready, too_close, busy, closing_breach, word_breach};
 
 use basics::choose;
 use command::address::bank;
@@ -23,14 +23,14 @@ pub(crate) fn near(clock: u32, stamp: u32, limit: u32, more: u32) -> bool
 
 // Rule 6, for a read or write.
 fn unready(extended: u32, regular: u32, second_last: u32, clock: u32) -> bool
-    ensures { result ≡ notReady extended regular second_last clock }
+    ensures { result ≡ not_ready extended regular second_last clock }
 {
     (extended == 0) | (regular == 0) | (second_last == 0) | ((clock as u64) < extended as u64 + 201)
 }
 
 // Rule 8, for a read or write.
 fn too_close(rda: bool, timing: Timing, read: u32, write: u32, clock: u32) -> bool
-    ensures { result ≡ tooClose rda true timing read write clock }
+    ensures { result ≡ too_close rda true timing read write clock }
 {
     let figures = timing.figures();
     let after_read = near(clock, read, figures.rbd, 0);
@@ -56,7 +56,7 @@ fn busy(rda: bool, timing: Timing, read: u32, write: u32, clock: u32) -> bool
 // Rules 4 to 12 at the LAL word of a read or write.
 fn access_breach(timing: Timing, stamps: Timestamps, clock: u32, first: u32, second: u32) -> u32
     requires { lal second ≡ true }
-    ensures { result ≡ closingBreach timing stamps clock first second }
+    ensures { result ≡ closing_breach timing stamps clock first second }
 {
     let figures = timing.figures();
     let rda = high(first, FN);
@@ -84,7 +84,7 @@ fn mode_or_refresh_breach(
     second: u32,
 ) -> u32
     requires { lal second ≡ false }
-    ensures { result ≡ closingBreach timing stamps clock first second }
+    ensures { result ≡ closing_breach timing stamps clock first second }
 {
     let figures = timing.figures();
     let rda = high(first, FN);
@@ -101,7 +101,7 @@ fn mode_or_refresh_breach(
 
 // Rules 4 to 12 at the closing word of a pair.
 fn closing_breach(timing: Timing, stamps: Timestamps, clock: u32, first: u32, second: u32) -> u32
-    ensures { result ≡ closingBreach timing stamps clock first second }
+    ensures { result ≡ closing_breach timing stamps clock first second }
 {
     let lal = high(second, CS);
     if lal {
@@ -113,7 +113,7 @@ fn closing_breach(timing: Timing, stamps: Timestamps, clock: u32, first: u32, se
 
 // The lowest breach number at a word, or 0, by any timestamps and what the word meets.
 pub fn word_breach(timing: Timing, stamps: Timestamps, clock: u32, first: u32, word: u32) -> u32
-    ensures { result ≡ wordBreach timing stamps clock first word }
+    ensures { result ≡ word_breach timing stamps clock first word }
 {
     let figures = timing.figures();
     let refs = stamps.refs;

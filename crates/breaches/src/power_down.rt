@@ -1,6 +1,6 @@
 // Power down: rule 2, by which PD goes low, and rule 13, by which the memory wakes.
 ghost use Rattle.std.specs.Prelude.{◌≡◌, ◌+◌};
-ghost use Rattle.rules.specs.Breaches.{near, mustStayHigh, wronglyLow, selectedAtExit};
+ghost use Rattle.rules.specs.Breaches.{near, must_stay_high, wrongly_low, selected_at_exit};
 
 use crate::near;
 use command::pins::{CS, PD, high};
@@ -16,7 +16,7 @@ fn began_near(clock: u32, stamp: u32, limit: u32) -> bool
 
 // PD may not go low yet, by any timestamps: it is too soon after an earlier pair.
 pub fn must_stay_high(timing: Timing, stamps: Timestamps, clock: u32) -> bool
-    ensures { result ≡ mustStayHigh timing stamps clock }
+    ensures { result ≡ must_stay_high timing stamps clock }
 {
     let figures = timing.figures();
     let half = figures.bl / 2;
@@ -38,7 +38,7 @@ pub(crate) fn wrongly_low(
     first: u32,
     word: u32,
 ) -> bool
-    ensures { result ≡ wronglyLow timing stamps clock first word }
+    ensures { result ≡ wrongly_low timing stamps clock first word }
 {
     let awake = high(word, PD);
     if awake {
@@ -53,7 +53,7 @@ pub(crate) fn wrongly_low(
 
 // Rule 13: a wake-up word with CS low.
 pub(crate) fn selected_at_exit(first: u32, word: u32) -> bool
-    ensures { result ≡ selectedAtExit first word }
+    ensures { result ≡ selected_at_exit first word }
 {
     let powered_down = is_powered_down(first);
     let exiting = is_exiting(first);

@@ -2,16 +2,16 @@
 use Rattle.std.specs.Prelude.{ℕ, List, [], ◌∷◌}
 use Rattle.basics.specs.Outcome.{Outcome, value, refused}
 use Rattle.config.specs.declared.Config.{Config}
-use Rattle.limits.specs.Limits.{Finding, always, breachOn, withinOf}
-use Rattle.bulk.specs.Numbers.{sheetOf}
+use Rattle.limits.specs.Limits.{Finding, always, breach_on, within_of}
+use Rattle.bulk.specs.Numbers.{sheet_of}
 
 -- the check in the limits of two sheets that are given by their numbers
-abbrev pub foundOf : List ℕ → List ℕ → List ℕ → Outcome Finding
-foundOf least greatest words = withinOf (sheetOf least) (sheetOf greatest) words
+abbrev pub found_of : List ℕ → List ℕ → List ℕ → Outcome Finding
+found_of least greatest words = within_of (sheet_of least) (sheet_of greatest) words
 
 -- the eleven numbers of a sheet, in the order of RULES 1.1
-abbrev pub numbersOf : Config → List ℕ
-numbersOf c =
+abbrev pub numbers_of : Config → List ℕ
+numbers_of c =
     c.grade
     ∷ c.cl
     ∷ c.bl
@@ -26,7 +26,7 @@ numbersOf c =
     ∷ []
 
 -- a sheet that is shown stands in the places; otherwise they stay
-abbrev pub shownIn : Outcome Finding → List ℕ → List ℕ
-shownIn (value always) places = places
-shownIn (value (breachOn c clock n)) places = numbersOf c
-shownIn (refused n) places = places
+abbrev pub shown_in : Outcome Finding → List ℕ → List ℕ
+shown_in (value always) places = places
+shown_in (value (breach_on c clock n)) places = numbers_of c
+shown_in (refused n) places = places

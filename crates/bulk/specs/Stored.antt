@@ -1,12 +1,12 @@
 -- The six counts of a tally in a lent buffer.
 use Rattle.std.specs.Prelude.{ℕ, List, ◌∷◌, cond, length, drop, leb}
-use Rattle.counts.specs.Counts.{Counting, countingOf}
+use Rattle.counts.specs.Counts.{Counting, counting_of}
 use Rattle.counts.specs.declared.CommandCounts.{CommandCounts}
-use Rattle.bulk.specs.Numbers.{sheetOf}
+use Rattle.bulk.specs.Numbers.{sheet_of}
 
 -- the call on a sheet that is given by its numbers
-abbrev pub countedOf : List ℕ → List ℕ → Counting
-countedOf sheet words = countingOf (sheetOf sheet) words
+abbrev pub counted_of : List ℕ → List ℕ → Counting
+counted_of sheet words = counting_of (sheet_of sheet) words
 
 -- they stand in the first six places of a list that has them; a shorter list stays
 abbrev pub stored : CommandCounts → List ℕ → List ℕ

@@ -1,13 +1,13 @@
 // The parts of a count's answer, and the six counts put into a buffer.
 ghost use Rattle.std.specs.Prelude.{◌≡◌};
-ghost use Rattle.counts.specs.Counts.{countingOutcome};
+ghost use Rattle.counts.specs.Counts.{counting_outcome};
 ghost use Rattle.bulk.specs.Stored.{stored};
 
 use counts::{CommandCounts, CountsAnswer};
 
 // 0, or the refusal's number.
 pub(crate) fn number_of(answer: CountsAnswer) -> u32
-    ensures { result ≡ (countingOutcome answer).number }
+    ensures { result ≡ (counting_outcome answer).number }
 {
     match answer {
         CountsAnswer::Counted(_) => 0,
@@ -16,7 +16,7 @@ pub(crate) fn number_of(answer: CountsAnswer) -> u32
 }
 
 pub(crate) fn counts_of(answer: CountsAnswer) -> CommandCounts
-    ensures { result ≡ (countingOutcome answer).counts }
+    ensures { result ≡ (counting_outcome answer).counts }
 {
     match answer {
         CountsAnswer::Counted(counts) => counts,

@@ -7,12 +7,12 @@ mod timed;
 mod walk;
 
 ghost use Rattle.std.specs.Prelude.{◌≡◌};
-ghost use Rattle.rules.specs.Verdict.{checkOf};
-ghost use Rattle.bulk.specs.Numbers.{sheetOf, checkNumber, findingNumber, walkNumber};
-ghost use Rattle.bulk.specs.Walks.{walk_of, againOf};
-ghost use Rattle.bulk.specs.Stored.{countedOf, stored};
-ghost use Rattle.bulk.specs.Shown.{foundOf, shownIn};
-ghost use Rattle.bulk.specs.Timed.{timedOf, timedNumber, timedIn};
+ghost use Rattle.rules.specs.Verdict.{check_of};
+ghost use Rattle.bulk.specs.Numbers.{sheet_of, check_number, finding_number, walk_number};
+ghost use Rattle.bulk.specs.Walks.{walk_of, again_of};
+ghost use Rattle.bulk.specs.Stored.{counted_of, stored};
+ghost use Rattle.bulk.specs.Shown.{found_of, shown_in};
+ghost use Rattle.bulk.specs.Timed.{timed_of, timed_number, timed_in};
 
 use config::Config;
 use counting::{counts_of, number_of, store};
@@ -27,7 +27,7 @@ use walk::walk;
 
 // The configuration that the eleven numbers of a sheet make.
 fn config_of(sheet: &[u32; 11]) -> Config
-    ensures { result ≡ sheetOf sheet.now }
+    ensures { result ≡ sheet_of sheet.now }
 {
     Config::wired(
         sheet[0], sheet[1], sheet[2], sheet[3], sheet[4], sheet[5], sheet[6], sheet[7], sheet[8],
@@ -38,7 +38,7 @@ fn config_of(sheet: &[u32; 11]) -> Config
 // The whole check.
 #[unsafe(no_mangle)]
 pub extern "C" fn bulk_check(sheet: &[u32; 11], words: &[u32]) -> u64
-    ensures { result ≡ checkNumber (checkOf (sheetOf sheet.now) words.now) }
+    ensures { result ≡ check_number (check_of (sheet_of sheet.now) words.now) }
 {
     of_verdict(wordcheck::check(config_of(sheet), words))
 }
@@ -51,9 +51,9 @@ pub extern "C" fn bulk_limits(
     words: &[u32],
     shown: &mut [u32; 11],
 ) -> u64
-    ensures answer { result ≡ findingNumber (foundOf least.now greatest.now words.now) }
+    ensures answer { result ≡ finding_number (found_of least.now greatest.now words.now) }
     ensures buffer { shown.new ≡
-        shownIn (foundOf least.now greatest.now words.now) shown.old }
+        shown_in (found_of least.now greatest.now words.now) shown.old }
 {
     let answer = check_within(config_of(least), config_of(greatest), words);
     show(answer, shown);
@@ -63,7 +63,7 @@ pub extern "C" fn bulk_limits(
 // A fresh walk, advanced until it does not pass: the answer that it stops with.
 #[unsafe(no_mangle)]
 pub extern "C" fn bulk_walk(sheet: &[u32; 11], words: &[u32]) -> u64
-    ensures { result ≡ walkNumber (walk_of (sheetOf sheet.now) words.now).outcome }
+    ensures { result ≡ walk_number (walk_of (sheet_of sheet.now) words.now).outcome }
 {
     let stopped = walk(config_of(sheet), words);
     let progress = stopped.progress;
@@ -73,7 +73,7 @@ pub extern "C" fn bulk_walk(sheet: &[u32; 11], words: &[u32]) -> u64
 // A whole walk over the words, and then the answer of one advance more.
 #[unsafe(no_mangle)]
 pub extern "C" fn bulk_walk_again(sheet: &[u32; 11], words: &[u32]) -> u64
-    ensures { result ≡ walkNumber (againOf (sheetOf sheet.now) words.now) }
+    ensures { result ≡ walk_number (again_of (sheet_of sheet.now) words.now) }
 {
     let stopped = walk(config_of(sheet), words);
     let reached = stopped.checker;
@@ -85,9 +85,9 @@ pub extern "C" fn bulk_walk_again(sheet: &[u32; 11], words: &[u32]) -> u64
 // Counts the commands and puts the six counts into the first six places, if there are six; 0 or the refusal's number.
 #[unsafe(no_mangle)]
 pub extern "C" fn bulk_count(sheet: &[u32; 11], words: &[u32], places: &mut [u32]) -> u32
-    ensures answer { result ≡ (countedOf sheet.now words.now).number }
+    ensures answer { result ≡ (counted_of sheet.now words.now).number }
     ensures buffer { places.new ≡
-        stored (countedOf sheet.now words.now).counts places.old }
+        stored (counted_of sheet.now words.now).counts places.old }
 {
     let answer = count_commands(config_of(sheet), words);
     store(counts_of(answer), places);
@@ -97,8 +97,8 @@ pub extern "C" fn bulk_count(sheet: &[u32; 11], words: &[u32], places: &mut [u32
 // How long so many words last, put into the places: whole nanoseconds and the rest; 0 or the refusal's number.
 #[unsafe(no_mangle)]
 pub extern "C" fn bulk_duration(sheet: &[u32; 11], count: usize, places: &mut [u32; 2]) -> u32
-    ensures answer { result ≡ timedNumber (timedOf sheet.now count) }
-    ensures buffer { places.new ≡ timedIn (timedOf sheet.now count) places.old }
+    ensures answer { result ≡ timed_number (timed_of sheet.now count) }
+    ensures buffer { places.new ≡ timed_in (timed_of sheet.now count) places.old }
 {
     let answer = trace_duration(config_of(sheet), count);
     put_time(answer, places);

@@ -1,14 +1,14 @@
 // The check in the limits of two sheets: its answer as one number, and the sheet that it shows.
 ghost use Rattle.std.specs.Prelude.{◌≡◌};
 ghost use Rattle.limits.specs.Answers.{findingOutcome};
-ghost use Rattle.bulk.specs.Numbers.{findingNumber};
-ghost use Rattle.bulk.specs.Shown.{shownIn};
+ghost use Rattle.bulk.specs.Numbers.{finding_number};
+ghost use Rattle.bulk.specs.Shown.{shown_in};
 
 use crate::number::of_breach;
 use limits::LimitsAnswer;
 
 pub(crate) fn of_answer(answer: LimitsAnswer) -> u64
-    ensures { result ≡ findingNumber (findingOutcome answer) }
+    ensures { result ≡ finding_number (findingOutcome answer) }
 {
     match answer {
         LimitsAnswer::Always => 0,
@@ -19,7 +19,7 @@ pub(crate) fn of_answer(answer: LimitsAnswer) -> u64
 
 // A sheet that is shown, by its eleven numbers.
 pub(crate) fn show(answer: LimitsAnswer, places: &mut [u32; 11])
-    ensures { places.new ≡ shownIn (findingOutcome answer) places.old }
+    ensures { places.new ≡ shown_in (findingOutcome answer) places.old }
 {
     match answer {
         LimitsAnswer::InBreach(sheet, _) => {

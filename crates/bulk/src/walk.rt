@@ -1,7 +1,7 @@
 // A walk that is advanced until it does not pass.
 ghost use Rattle.std.specs.Prelude.{◌≡◌};
-ghost use Rattle.walks.specs.Walk.{progressOutcome, moved};
-ghost use Rattle.bulk.specs.Walks.{isPass, walkFrom, walk_of};
+ghost use Rattle.walks.specs.Walk.{progress_outcome, moved};
+ghost use Rattle.bulk.specs.Walks.{is_pass, walk_from, walk_of};
 
 use checker::Checker;
 use config::Config;
@@ -9,7 +9,7 @@ use lending::advance_through;
 use walks::{Moved, Progress};
 
 fn passes(progress: Progress) -> bool
-    ensures { result ≡ isPass (progressOutcome progress) }
+    ensures { result ≡ is_pass (progress_outcome progress) }
 {
     match progress {
         Progress::Passed => true,
@@ -21,7 +21,7 @@ fn passes(progress: Progress) -> bool
 
 // At most so many advances.
 fn walk_from(words: &[u32], checker: Checker, most: usize) -> Moved
-    ensures { moved result ≡ walkFrom most checker words.now }
+    ensures { moved result ≡ walk_from most checker words.now }
 {
     let mut now = checker;
     let mut left = most;

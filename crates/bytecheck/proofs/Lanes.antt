@@ -11,8 +11,8 @@ use lib.Pow.{split, pow_pos, shr-shr, field, mod-pow-add}
 use Rattle.config.specs.declared.Timing.{Timing}
 use Rattle.command.specs.Pins.{high}
 use Rattle.command.specs.Pairs.{rda}
-use Rattle.reading.specs.Reading.{laneReserved}
-use Rattle.bytecheck.specs.Pairs.{limitsOf, Clear}
+use Rattle.reading.specs.Reading.{lane_reserved}
+use Rattle.bytecheck.specs.Pairs.{limits_of, Clear}
 
 -- the bits of a mask in a pair, of its two words
 of_words : (pair a b : ℕ) → b < 2 ^ 32 → bit_and pair (a * 2 ^ 32 + b) ≡ bit_and (pair / 2 ^ 32) a * 2 ^ 32 + bit_and (pair % 2 ^ 32) b
@@ -20,8 +20,8 @@ of_words pair a b h =
     ap (λ p. bit_and p (a * 2 ^ 32 + b)) (sym (split pair 32))
     ∙ and_block 32 (pair / 2 ^ 32) a (pair % 2 ^ 32) b (mod-lt pair (pow_pos 32)) h
 
-lower-bits : (w : ℕ) → w / 2 ^ 16 % 2 ≡ 0 → w / 2 ^ 13 % 2 ≡ 0 → bit_and w 0x12000 ≡ 0
-lower-bits w e16 e13 =
+lower_bits : (w : ℕ) → w / 2 ^ 16 % 2 ≡ 0 → w / 2 ^ 13 % 2 ≡ 0 → bit_and w 0x12000 ≡ 0
+lower_bits w e16 e13 =
     let parts =
     ap (λ p. bit_and p 0x12000) (sym (split w 14))
     ∙ and_block 14 (w / 2 ^ 14) 4 (w % 2 ^ 14) 0x2000 (mod-lt w (pow_pos 14)) (omega arith) in
@@ -31,16 +31,16 @@ lower-bits w e16 e13 =
     let low : bit_and (w % 2 ^ 14) 0x2000 ≡ 0 = and_high (w % 2 ^ 14) 1 13 ∙ rw p13 in
     parts ∙ rw (high, low)
 
-upper-bits : (w : ℕ) → w / 2 ^ 12 % 2 ≡ 0 → w / 2 ^ 11 % 2 ≡ 0 → bit_and w 0x1800 ≡ 0
-upper-bits w e12 e11 =
+upper_bits : (w : ℕ) → w / 2 ^ 12 % 2 ≡ 0 → w / 2 ^ 11 % 2 ≡ 0 → bit_and w 0x1800 ≡ 0
+upper_bits w e12 e11 =
     let pins : w / 2 ^ 11 % 2 ^ 2 ≡ 0 = mod-pow-add (w / 2 ^ 11) 1 1 ∙ rw (shr-shr w 11 1, e12, e11) in
     and_high w 2 11 ∙ rw pins
 
-fn-bit : (first : ℕ) → first / 2 ^ 17 % 2 ≡ 0 → bit_and first 0x20000 ≡ 0
-fn-bit first e = omega (arith, and_high first 1 17)
+fn_bit : (first : ℕ) → first / 2 ^ 17 % 2 ≡ 0 → bit_and first 0x20000 ≡ 0
+fn_bit first e = omega (arith, and_high first 1 17)
 
-low-pin : (x : ℕ) → eqb (x % 2) 1 ≡ false → x % 2 ≡ 0
-low-pin x e = by (x % 2) refl (eqb-false (x % 2) 1 e)
+low_pin : (x : ℕ) → eqb (x % 2) 1 ≡ false → x % 2 ≡ 0
+low_pin x e = by (x % 2) refl (eqb-false (x % 2) 1 e)
   where
     by : (r : ℕ) → x % 2 ≡ r → (x % 2 ≡ 1 → ⊥) → x % 2 ≡ 0
     by zero is other = is
@@ -57,7 +57,7 @@ lane-by fn a b some = by (eqb (fn % 2) 1) refl (eqb (a % 2) 1) refl (eqb (b % 2)
     by true x y b z c = refl
     by false x true b z c = refl
     by false x false b true c = refl
-    by false x false y false z = absurd (some (low-pin fn x) (low-pin a y) (low-pin b z))
+    by false x false y false z = absurd (some (low_pin fn x) (low_pin a y) (low_pin b z))
 
 -- by which no lane is reserved
 reserved-by : (write lal four sixteen lower upper : Bool) → (four ≡ true → write && lower ≡ false)
@@ -68,15 +68,15 @@ reserved-by true true false sixteen lower upper l u = refl
 reserved-by true true true false lower upper l u = rw (l refl)
 reserved-by true true true true lower upper l u = rw (l refl) (u refl refl)
 
-pub unreserved : (t : Timing) {bank allowed k pair : ℕ} → Clear (limitsOf t) bank allowed k pair
-    → laneReserved t (pair % 2 ^ 32) (pair / 2 ^ 32) ≡ false
+pub unreserved : (t : Timing) {bank allowed k pair : ℕ} → Clear (limits_of t) bank allowed k pair
+    → lane_reserved t (pair % 2 ^ 32) (pair / 2 ^ 32) ≡ false
 unreserved t {pair = pair} clear =
     reserved-by (not (rda first)) (high 18 w) (eqb t.bl 4) (eqb t.organisation 16) (not (high 16 w) && not (high 13 w))
     (not (high 12 w) && not (high 11 w))
     (λ four. lane-by (first / 2 ^ 17) (w / 2 ^ 16) (w / 2 ^ 13)
-    (λ fn a b. rw four at clear.lower (of_words pair 0x12000 0x20000 (omega arith) ∙ rw (lower-bits w a b, fn-bit first fn))))
+    (λ fn a b. rw four at clear.lower (of_words pair 0x12000 0x20000 (omega arith) ∙ rw (lower_bits w a b, fn_bit first fn))))
     (λ four sixteen. lane-by (first / 2 ^ 17) (w / 2 ^ 12) (w / 2 ^ 11)
-    (λ fn a b. rw (four, sixteen) at clear.upper (of_words pair 0x1800 0x20000 (omega arith) ∙ rw (upper-bits w a b, fn-bit first fn))))
+    (λ fn a b. rw (four, sixteen) at clear.upper (of_words pair 0x1800 0x20000 (omega arith) ∙ rw (upper_bits w a b, fn_bit first fn))))
   where
     first : ℕ
     first = pair % 2 ^ 32

@@ -13,10 +13,10 @@ use lib.Dec.{eqb}
 use Rattle.config.specs.declared.Timing.{Timing}
 use Rattle.command.specs.Pins.{high}
 use Rattle.command.specs.Pairs.{rda}
-use Rattle.command.specs.Address.{bankOf}
-use Rattle.reading.specs.Reading.{laneReserved}
-use Rattle.stamps.specs.Stamps.{isPoweredDown, isExiting}
-use Rattle.rules.specs.Breaches.{near, bankStamp, tooClose, deadline, overdue, mustStayHigh, earlyAt, closingBreach}
+use Rattle.command.specs.Address.{bank_of}
+use Rattle.reading.specs.Reading.{lane_reserved}
+use Rattle.stamps.specs.Stamps.{is_powered_down, is_exiting}
+use Rattle.rules.specs.Breaches.{near, bank_stamp, too_close, deadline, overdue, must_stay_high, early_at, closing_breach}
 use Rattle.rules.specs.Verdict.{Judgement}
 use Rattle.stamps.specs.declared.Timestamps.{Timestamps}
 use Rattle.breaches.proofs.ByKind.{at-lal}
@@ -32,7 +32,7 @@ far k c n h = rw (le-ltb k (c + n) h) (and-false (not (eqb c 0)))
 
 -- rules 1 to 3 are kept
 pub early-kept : (t : Timing) (s : Timestamps) (k first w : ℕ) → w / 2 ^ 19 ≡ 1 → overdue (deadline t.refi s.refs) k ≡ false
-    → earlyAt t s k first w ≡ 0
+    → early_at t s k first w ≡ 0
 early-kept t s k first w e due = rw (lt-leb (2 ^ 20) w (omega arith), e, due)
 
 -- a word with PD and CS high, and no bit above
@@ -45,20 +45,20 @@ driven w e = omega arith
 -- the LAL word of a read or write that keeps every rule from 5 on
 pub record Kept (t : Timing) (s : Timestamps) (k first w : ℕ) : Type 0 where
   pub driven : w / 2 ^ 18 ≡ 3
-  pub unreserved : laneReserved t first w ≡ false
-  pub rested : near k (bankStamp t.four s first) t.rc ≡ false
-  pub spaced : tooClose (rda first) true t s.read s.write k ≡ false
+  pub unreserved : lane_reserved t first w ≡ false
+  pub rested : near k (bank_stamp t.four s first) t.rc ≡ false
+  pub spaced : too_close (rda first) true t s.read s.write k ≡ false
   pub settled : Settled t s k
 
-lal-kept : (t : Timing) (s : Timestamps) (k first w : ℕ) → Kept t s k first w → closingBreach t s k first w ≡ 0
+lal-kept : (t : Timing) (s : Timestamps) (k first w : ℕ) → Kept t s k first w → closing_breach t s k first w ≡ 0
 lal-kept t s k first w kept =
     let settled = kept.settled in
     sym
     (at-lal t s k first w (high-lal w kept.driven) (sym kept.unreserved) (sym settled.ready)
     (rw (← no_more t.rc) at (sym kept.rested))
     (sym kept.spaced)
-    (rw (← no_more t.rsc) at (sym settled.afterMode))
-    (rw (← no_more t.refc) at (sym settled.afterRefresh)))
+    (rw (← no_more t.rsc) at (sym settled.after_mode))
+    (rw (← no_more t.refc) at (sym settled.after_refresh)))
 
 -- the place after the LAL word of a read or write of a bank, with these last ones
 abbrev pub accessed : ℕ → Place → ℕ → ℕ → Place
@@ -94,7 +94,7 @@ module _ (t : Timing) (ws : List ℕ) (p : Place) {w : ℕ} (inside : p.clock < 
       record { inside = inside; sound = rw (← word, free, early); leads = rw (← word, free, pd, e) }
 
   -- a word that goes low
-  pub low-passes : p.met ≡ 0xC0000 → w / 2 ^ 18 ≡ 1 → mustStayHigh t p.stamps p.clock ≡ false → Passes t ws p (behind 0x40000)
+  pub low-passes : p.met ≡ 0xC0000 → w / 2 ^ 18 ≡ 1 → must_stay_high t p.stamps p.clock ≡ false → Passes t ws p (behind 0x40000)
   low-passes free e may =
       let pd : w / 2 ^ 19 ≡ 0 = omega arith in
       record {
@@ -104,11 +104,11 @@ module _ (t : Timing) (ws : List ℕ) (p : Place) {w : ℕ} (inside : p.clock < 
       }
 
   -- a wake-up word, the first and the second
-  pub exit-passes : high 18 p.met ≡ true → {first₁ : ℕ} → first₁ ≡ cond {A = ℕ} (isPoweredDown p.met) 0xE0000 0xC0000
+  pub exit_passes : high 18 p.met ≡ true → {first₁ : ℕ} → first₁ ≡ cond {A = ℕ} (is_powered_down p.met) 0xE0000 0xC0000
       → w / 2 ^ 18 ≡ 3 → Passes t ws p (behind first₁)
-  exit-passes no-pair next e =
+  exit_passes no-pair next e =
       let early = early-kept t p.stamps p.clock p.met w (driven w e) due in
-      let unselected = and-false (isPoweredDown p.met || isExiting p.met) in
+      let unselected = and-false (is_powered_down p.met || is_exiting p.met) in
       record {
         inside = inside;
         sound = rw (← word, early, driven w e, e, unselected) (rw no-pair);
@@ -116,7 +116,7 @@ module _ (t : Timing) (ws : List ℕ) (p : Place) {w : ℕ} (inside : p.clock < 
       }
 
   -- the LAL word of a read or write
-  pub access-passes : high 18 p.met ≡ false → {bank : ℕ} → bank ≡ bankOf t.four p.met → Kept t p.stamps p.clock p.met w
+  pub access-passes : high 18 p.met ≡ false → {bank : ℕ} → bank ≡ bank_of t.four p.met → Kept t p.stamps p.clock p.met w
       → {read write : ℕ} → read ≡ cond {A = ℕ} (rda p.met) p.clock p.stamps.read
       → write ≡ cond {A = ℕ} (rda p.met) p.stamps.write p.clock → Passes t ws p (accessed bank p read write)
   access-passes opened of-bank kept read write =
@@ -129,23 +129,23 @@ module _ (t : Timing) (ws : List ℕ) (p : Place) {w : ℕ} (inside : p.clock < 
       }
 
 -- a DESL word where nothing is met, and one with PD low in sleep
-pub desl-quiet : Quiet 0xC0000 18 3
-desl-quiet t s k w cs due = (rw (early-kept t s k 0xC0000 w (driven w cs) due), rw (cs, driven w cs))
+pub desl_quiet : Quiet 0xC0000 18 3
+desl_quiet t s k w cs due = (rw (early-kept t s k 0xC0000 w (driven w cs) due), rw (cs, driven w cs))
 
-pub low-quiet : Quiet 0x40000 19 0
-low-quiet t s k w pd due = (rw (lt-leb (2 ^ 20) w (omega arith), pd, due), rw pd)
+pub low_quiet : Quiet 0x40000 19 0
+low_quiet t s k w pd due = (rw (lt-leb (2 ^ 20) w (omega arith), pd, due), rw pd)
 
 -- any number of words from clock k on that are quiet
-pub quiet-on : {first : ℕ} (shift top : ℕ) → Quiet first shift top → (t : Timing) (s : Timestamps) (ws : List ℕ) (k n : ℕ)
+pub quiet_on : {first : ℕ} (shift top : ℕ) → Quiet first shift top → (t : Timing) (s : Timestamps) (ws : List ℕ) (k n : ℕ)
     → ((i : ℕ) → i < n → (k + i < length ws) × (get_or ws (k + i) 0 / 2 ^ shift ≡ top))
     → ((i : ℕ) → i < n → overdue (deadline t.refi s.refs) (k + i) ≡ false)
     → Passed t ws (record { clock = k; met = first; stamps = s }) (record { clock = k + n; met = first; stamps = s })
-quiet-on shift top quiet t s ws k zero words due = rw (add-zero k) none
-quiet-on shift top quiet t s ws k (suc n) words due =
+quiet_on shift top quiet t s ws k zero words due = rw (add-zero k) none
+quiet_on shift top quiet t s ws k (suc n) words due =
     let here = words n (omega arith) in
     let sound = quiet t s (k + n) (get_or ws (k + n) 0) here.1 (due n (omega arith)) in
     rw (add-suc k n, ← add-one (k + n))
-    (more (quiet-on shift top quiet t s ws k n (λ i h. words i (omega arith)) (λ i h. due i (omega arith)))
+    (more (quiet_on shift top quiet t s ws k n (λ i h. words i (omega arith)) (λ i h. due i (omega arith)))
     (record { inside = here.0; sound = sound.0; leads = sound.1 }))
 
 pub passed_on : {t : Timing} {ws : List ℕ} {p q r : Place} → Passed t ws p q → Passed t ws q r → Passed t ws p r

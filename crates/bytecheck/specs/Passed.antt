@@ -2,8 +2,8 @@
 use Rattle.std.specs.Prelude.{ℕ, ◌+◌, ◌<◌, List, ◌≡◌, Bool, length, get_or}
 use Rattle.command.specs.Pairs.{desl}
 use Rattle.config.specs.declared.Timing.{Timing}
-use Rattle.stamps.specs.Stamps.{nextStamps, nextMet, never}
-use Rattle.rules.specs.Breaches.{wordBreach}
+use Rattle.stamps.specs.Stamps.{next_stamps, next_met, never}
+use Rattle.rules.specs.Breaches.{word_breach}
 use Rattle.bytecheck.specs.declared.place.Place.{Place}
 
 -- before the first word
@@ -15,14 +15,14 @@ abbrev pub next : Bool → Place → ℕ → Place
 next four p w =
     record {
       clock = p.clock + 1;
-      met = nextMet p.met w;
-      stamps = nextStamps four p.stamps p.clock p.met w;
+      met = next_met p.met w;
+      stamps = next_stamps four p.stamps p.clock p.met w;
     }
 
 -- the word at place p is there, breaches nothing, and leads to q
 pub record Passes (t : Timing) (words : List ℕ) (p q : Place) : Type 0 where
   pub inside : p.clock < length words
-  pub sound : wordBreach t p.stamps p.clock p.met (get_or words p.clock 0) ≡ 0
+  pub sound : word_breach t p.stamps p.clock p.met (get_or words p.clock 0) ≡ 0
   pub leads : q ≡ next t.four p (get_or words p.clock 0)
 
 -- any number of such words, none included

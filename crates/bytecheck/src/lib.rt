@@ -8,8 +8,8 @@ mod skim;
 ghost use Rattle.std.specs.Prelude.{◌≡◌, ◌≤◌, ◌/◌, length};
 ghost use Rattle.basics.specs.Outcome.{value};
 ghost use Rattle.words.specs.Words.{words_of};
-ghost use Rattle.rules.specs.Verdict.{judge, checkBytesOf};
-ghost use Rattle.checker.specs.Steps.{verdictOutcome};
+ghost use Rattle.rules.specs.Verdict.{judge, check_bytes_of};
+ghost use Rattle.checker.specs.Steps.{verdict_outcome};
 
 use basics::{LIMIT, Refusal};
 use breaches::word_breach;
@@ -21,7 +21,7 @@ use skim::skimmed;
 // Words that surely breach nothing are skimmed; the others are tested by every rule.
 fn judged_bytes(timing: Timing, bytes: &[u8]) -> Verdict
     requires { length bytes.now / 4 ≤ 16777216 }
-    ensures { verdictOutcome result ≡ value (judge timing (words_of bytes.now)) }
+    ensures { verdict_outcome result ≡ value (judge timing (words_of bytes.now)) }
 {
     let figures = timing.figures();
     let four = figures.four;
@@ -44,7 +44,7 @@ fn judged_bytes(timing: Timing, bytes: &[u8]) -> Verdict
 
 // The verdict on a trace of little-endian bytes: the configuration's refusals, then 29 for bytes that are no whole words, then 24.
 pub fn check_bytes(config: Config, bytes: &[u8]) -> Verdict
-    ensures { verdictOutcome result ≡ checkBytesOf config bytes.now }
+    ensures { verdict_outcome result ≡ check_bytes_of config bytes.now }
 {
     match config.timing() {
         TimingAnswer::Refused(why) => Verdict::Refused(why),

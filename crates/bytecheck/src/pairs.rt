@@ -4,7 +4,7 @@
 ghost use Rattle.std.specs.Prelude.{◌≡◌, ◌≤◌, ◌/◌, length};
 ghost use Rattle.words.specs.Words.{words_of};
 ghost use Rattle.bytecheck.specs.Passed.{Passed};
-ghost use Rattle.bytecheck.specs.Pairs.{Tracked, trackAt};
+ghost use Rattle.bytecheck.specs.Pairs.{Tracked, track_at};
 
 use crate::quick::{Limits, clear, greater};
 use command::address::bank;
@@ -54,7 +54,7 @@ impl Track {
 // Passes over reads and writes that stand one right behind the other. A loop of its own, in which nothing waits for where a gap ends.
 pub(crate) fn past_pairs(timing: Timing, bytes: &[u8], from: Track, end: u64) -> Track
     requires { (length bytes.now / 4 ≤ 16777216) × (end ≤ length bytes.now / 4) × Tracked timing end from }
-    ensures { Tracked timing end result × Passed timing (words_of bytes.now) (trackAt from) (trackAt result) }
+    ensures { Tracked timing end result × Passed timing (words_of bytes.now) (track_at from) (track_at result) }
 {
     let limits = Limits::of(timing);
     let spacings = limits.spacings;
@@ -86,7 +86,7 @@ pub(crate) fn past_pairs(timing: Timing, bytes: &[u8], from: Track, end: u64) ->
 // bit, and the lowest bit says where the next pair is, so the length of a gap decides no branch. Ends where there are no gaps, or no pairs.
 pub(crate) fn past_gaps(timing: Timing, bytes: &[u8], from: Track, end: u64) -> Track
     requires { (length bytes.now / 4 ≤ 16777216) × (end ≤ length bytes.now / 4) × Tracked timing end from }
-    ensures { Tracked timing end result × Passed timing (words_of bytes.now) (trackAt from) (trackAt result) }
+    ensures { Tracked timing end result × Passed timing (words_of bytes.now) (track_at from) (track_at result) }
 {
     let limits = Limits::of(timing);
     let spacings = limits.spacings;

@@ -2,7 +2,7 @@
 ghost use Rattle.std.specs.Prelude.{◌≡◌, true, false, cond, ℕ, ◌+◌, ◌≤◌, ◌<◌, max};
 ghost use Rattle.rules.specs.Breaches.{overdue};
 ghost use Rattle.bytecheck.specs.Quick.{SettledFrom, InTime};
-ghost use Rattle.bytecheck.specs.Pairs.{limitsOf, Small, Clear, FreeFrom};
+ghost use Rattle.bytecheck.specs.Pairs.{limits_of, Small, Clear, FreeFrom};
 
 use config::Timing;
 use early::deadline;
@@ -98,7 +98,7 @@ pub(crate) struct Limits {
 
 impl Limits {
     pub(crate) fn of(timing: Timing) -> Limits
-        ensures { (result ≡ limitsOf timing) × Small result }
+        ensures { (result ≡ limits_of timing) × Small result }
     {
         let figures = timing.figures();
         let reserved = figures.bl == 4;

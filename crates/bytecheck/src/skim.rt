@@ -2,8 +2,8 @@
 ghost use Rattle.std.specs.Prelude.{◌≡◌, ◌≤◌, ◌/◌, length};
 ghost use Rattle.words.specs.Words.{words_of};
 ghost use Rattle.bytecheck.specs.Passed.{Passed};
-ghost use Rattle.bytecheck.specs.Quick.{idleAt};
-ghost use Rattle.bytecheck.specs.Pairs.{stampsOf};
+ghost use Rattle.bytecheck.specs.Quick.{idle_at};
+ghost use Rattle.bytecheck.specs.Pairs.{stamps_of};
 
 use crate::idle::{past_idle, past_low};
 use crate::pairs::{Track, past_gaps, past_pairs};
@@ -14,7 +14,7 @@ use stamps::{DESL, POWERED_DOWN, Timestamps};
 
 // The timestamps of a track, with the last read and write.
 fn current(track: Track) -> Timestamps
-    ensures { result ≡ stampsOf track }
+    ensures { result ≡ stamps_of track }
 {
     let stamps = track.stamps;
     let accesses = track.accesses;
@@ -36,7 +36,7 @@ fn current(track: Track) -> Timestamps
 // they were tried before and nothing is passed since, the skim ends.
 fn skim(timing: Timing, bytes: &[u8], from: Timestamps, start: u32) -> Place
     requires { length bytes.now / 4 ≤ 16777216 }
-    ensures { Passed timing (words_of bytes.now) (idleAt start from) result }
+    ensures { Passed timing (words_of bytes.now) (idle_at start from) result }
 {
     let end = in_time(timing, from, (bytes.len() / 4) as u64);
     let mut track = Track {

@@ -5,8 +5,8 @@ use Rattle.config.specs.Configuration.{institute, derived}
 use Rattle.config.specs.declared.Timing.{Timing}
 use Rattle.command.specs.Pins.{level}
 use Rattle.model.specs.Laid.{Course, start, tick, queued}
-use Rattle.model.specs.Traces.{words, startUpPairs, readAt, bank0Read}
-use Rattle.cases.specs.CheckerCases.{Row, row, agree, checkerCases}
+use Rattle.model.specs.Traces.{words, start_up_pairs, read_at, bank0_read}
+use Rattle.cases.specs.CheckerCases.{Row, row, agree, checker_cases}
 
 -- the next words are these
 abbrev pub gives : Timing → Course → List ℕ → Bool
@@ -18,8 +18,8 @@ abbrev pub table : List Row
 table =
     -- a (RULES 8.5): a fresh controller that was offered this read gives the start-up, RDA at 201, and at every other clock C0000, at 200
     -- too
-    row (level (gives (derived institute) (queued start bank0Read) (words 0 (startUpPairs ++ (readAt 201 0 ∷ [])) 1))) 1
-    ∷ checkerCases
+    row (level (gives (derived institute) (queued start bank0_read) (words 0 (start_up_pairs ++ (read_at 201 0 ∷ [])) 1))) 1
+    ∷ checker_cases
 
 -- every row is as it should be
 pub cases : agree table ≡ true

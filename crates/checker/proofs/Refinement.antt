@@ -8,22 +8,22 @@ use borrow.Author.Tests.{lt-ltb, eq-eqb, ne_eqb, ltb-true}
 use lib.ListN.{length}
 use lib.Dec.{eqb, ltb}
 use Rattle.basics.specs.Outcome.{Outcome, value, refused}
-use Rattle.config.specs.Configuration.{timingOf}
+use Rattle.config.specs.Configuration.{timing_of}
 use Rattle.config.specs.declared.Config.{Config}
 use Rattle.config.specs.declared.Timing.{Timing}
 use Rattle.basics.proofs.Outcomes.{refused-value, same_number, refused-by}
 use Rattle.config.proofs.Accepted.{wired, config-below}
-use Rattle.rules.specs.History.{ClosedPair, idle, Phase, between, nextPhase, nextPairs}
+use Rattle.rules.specs.History.{ClosedPair, idle, Phase, between, next_phase, next_pairs}
 use Rattle.rules.specs.Verdict.{accepted, breach, judge}
-use Rattle.stamps.specs.Stamps.{nextStamps, nextMet}
-use Rattle.rules.specs.Breaches.{wordBreach}
-use Rattle.consistency.specs.Consistency.{clockFits}
-use Rattle.checker.specs.Steps.{Step, fresh, stepBy, step_of}
-use Rattle.checker.specs.Refinement.{stepping, afterAll, Refinement}
+use Rattle.stamps.specs.Stamps.{next_stamps, next_met}
+use Rattle.rules.specs.Breaches.{word_breach}
+use Rattle.consistency.specs.Consistency.{clock_fits}
+use Rattle.checker.specs.Steps.{Step, fresh, step_by, step_of}
+use Rattle.checker.specs.Refinement.{stepping, after_all, Refinement}
 use Rattle.stamps.specs.declared.Timestamps.{Timestamps}
 use Rattle.checker.specs.declared.checker.Checker.{Checker}
 use Rattle.rules.proofs.Summary.{summary}
-use Rattle.rules.specs.Kept.{metOf}
+use Rattle.rules.specs.Kept.{met_of}
 use Rattle.rules.proofs.Words.{Regular, regular-extend, stamps-is, met-is, run, run_is}
 use Rattle.checker.proofs.Before.{fits}
 
@@ -31,37 +31,37 @@ use Rattle.checker.proofs.Before.{fits}
 abbrev at : Config → Timestamps → ℕ → ℕ → Checker
 at c s k first = record { config = c; clock = k; met = first; stamps = s; breach = record { clock = 0; number = 0 } }
 
-module _ (c : Config) (t : Timing) (e : timingOf c ≡ value t) where
-  module _ (s : Timestamps) (k first w : ℕ) (f : clockFits k first s ≡ true) (h : k < 16777216) where
-    step-passes : wordBreach t s k first w ≡ 0
+module _ (c : Config) (t : Timing) (e : timing_of c ≡ value t) where
+  module _ (s : Timestamps) (k first w : ℕ) (f : clock_fits k first s ≡ true) (h : k < 16777216) where
+    step-passes : word_breach t s k first w ≡ 0
         → step_of
         (at c s k first) w ≡ record {
           outcome = value accepted;
-          after = at c (nextStamps t.four s k first w) (k + 1) (nextMet first w);
+          after = at c (next_stamps t.four s k first w) (k + 1) (next_met first w);
         }
-    step-passes z = rw (e, f, lt-ltb k 16777216 h, eq-eqb (wordBreach t s k first w) 0 z)
+    step-passes z = rw (e, f, lt-ltb k 16777216 h, eq-eqb (word_breach t s k first w) 0 z)
 
-    step-breaches : (n : ℕ) → wordBreach t s k first w ≡ suc n → (step_of (at c s k first) w).outcome ≡ value (breach k (suc n))
-    step-breaches n z = rw (e, f, lt-ltb k 16777216 h, z, ne_eqb (suc n) 0 (λ q. omega arith))
+    step_breaches : (n : ℕ) → word_breach t s k first w ≡ suc n → (step_of (at c s k first) w).outcome ≡ value (breach k (suc n))
+    step_breaches n z = rw (e, f, lt-ltb k 16777216 h, z, ne_eqb (suc n) 0 (λ q. omega arith))
 
   stepping-is : (o : Phase) (k : ℕ) (ps : List ClosedPair) (ws : List ℕ) → Regular o k ps → k + length ws ≤ 16777216
-      → stepping (at c (summary t.four ps) k (metOf o)) ws ≡ value (run t (summary t.four ps) k (metOf o) ws)
+      → stepping (at c (summary t.four ps) k (met_of o)) ws ≡ value (run t (summary t.four ps) k (met_of o) ws)
   stepping-is o k ps [] r h = refl
   stepping-is o k ps (w ∷ ws) r h =
-      let ih = stepping-is (nextPhase o w) (k + 1) (nextPairs o k w ps) ws (regular-extend o k ps w r) (omega arith) in
-      go (wordBreach t (summary t.four ps) k (metOf o) w) refl (rw (stamps-is t.four o k ps w r, met-is o k ps w r) at ih)
+      let ih = stepping-is (next_phase o w) (k + 1) (next_pairs o k w ps) ws (regular-extend o k ps w r) (omega arith) in
+      go (word_breach t (summary t.four ps) k (met_of o) w) refl (rw (stamps-is t.four o k ps w r, met-is o k ps w r) at ih)
     where
-      f : clockFits k (metOf o) (summary t.four ps) ≡ true
+      f : clock_fits k (met_of o) (summary t.four ps) ≡ true
       f = fits t.four o k ps r (omega arith)
 
-      go : (n : ℕ) → wordBreach t (summary t.four ps) k (metOf o) w ≡ n
-          → stepping (at c (nextStamps t.four (summary t.four ps) k (metOf o) w) (k + 1) (nextMet (metOf o) w)) ws
-          ≡ value (run t (nextStamps t.four (summary t.four ps) k (metOf o) w) (k + 1) (nextMet (metOf o) w) ws)
-          → stepping (at c (summary t.four ps) k (metOf o)) (w ∷ ws) ≡ value (run t (summary t.four ps) k (metOf o) (w ∷ ws))
-      go zero z ih = rw (step-passes (summary t.four ps) k (metOf o) w f (omega arith) z, z) ih
-      go (suc n) z ih = rw (step-breaches (summary t.four ps) k (metOf o) w f (omega arith) n z, z)
+      go : (n : ℕ) → word_breach t (summary t.four ps) k (met_of o) w ≡ n
+          → stepping (at c (next_stamps t.four (summary t.four ps) k (met_of o) w) (k + 1) (next_met (met_of o) w)) ws
+          ≡ value (run t (next_stamps t.four (summary t.four ps) k (met_of o) w) (k + 1) (next_met (met_of o) w) ws)
+          → stepping (at c (summary t.four ps) k (met_of o)) (w ∷ ws) ≡ value (run t (summary t.four ps) k (met_of o) (w ∷ ws))
+      go zero z ih = rw (step-passes (summary t.four ps) k (met_of o) w f (omega arith) z, z) ih
+      go (suc n) z ih = rw (step_breaches (summary t.four ps) k (met_of o) w f (omega arith) n z, z)
 
-verdict : (c : Config) (t : Timing) (ws : List ℕ) → timingOf c ≡ value t → length ws ≤ 16777216 → stepping (fresh c) ws ≡ value (judge t ws)
+verdict : (c : Config) (t : Timing) (ws : List ℕ) → timing_of c ≡ value t → length ws ≤ 16777216 → stepping (fresh c) ws ≡ value (judge t ws)
 verdict c t ws e h = stepping-is c t e (between idle) 0 [] ws (omega arith, tt) (omega arith) ∙ ap value (sym (run_is t ws))
 
 -- a clock, first word and timestamps that are those of such a past
@@ -70,22 +70,22 @@ record OfPast (four : Bool) (k f : ℕ) (s : Timestamps) : Type 0 where
   pairs : List ClosedPair
   regular : Regular phase k pairs
   limit : k ≤ 16777216
-  met : f ≡ metOf phase
+  met : f ≡ met_of phase
   stamps : s ≡ summary four pairs
 
 past_next : (four : Bool) (k f : ℕ) (s : Timestamps) (w : ℕ) → OfPast four k f s → k < 16777216
-    → OfPast four (k + 1) (nextMet f w) (nextStamps four s k f w)
+    → OfPast four (k + 1) (next_met f w) (next_stamps four s k f w)
 past_next four k f s w h l =
     record {
-      phase = nextPhase h.phase w;
-      pairs = nextPairs h.phase k w h.pairs;
+      phase = next_phase h.phase w;
+      pairs = next_pairs h.phase k w h.pairs;
       regular = regular-extend h.phase k h.pairs w h.regular;
       limit = omega arith;
       met = rw h.met (sym (met-is h.phase k h.pairs w h.regular));
       stamps = rw (h.met, h.stamps) (sym (stamps-is four h.phase k h.pairs w h.regular));
     }
 
-past_fits : (four : Bool) (k f : ℕ) (s : Timestamps) → OfPast four k f s → clockFits k f s ≡ true
+past_fits : (four : Bool) (k f : ℕ) (s : Timestamps) → OfPast four k f s → clock_fits k f s ≡ true
 past_fits four k f s h = rw (h.met, h.stamps) (fits four h.phase k h.pairs h.regular h.limit)
 
 -- of a state's own wiring
@@ -95,18 +95,18 @@ four c = eqb c.config.wiring 4
 abbrev HasPast : Checker → Type 0
 HasPast c = OfPast (four c) c.clock c.met c.stamps
 
-pub cond-case : {A : Type 0} (P : A → Type 0) (b : Bool) (x y : A) → (b ≡ true → P x) → (b ≡ false → P y) → P (cond b x y)
-cond-case P true x y f g = f refl
-cond-case P false x y f g = g refl
+pub cond_case : {A : Type 0} (P : A → Type 0) (b : Bool) (x y : A) → (b ≡ true → P x) → (b ≡ false → P y) → P (cond b x y)
+cond_case P true x y f g = f refl
+cond_case P false x y f g = g refl
 
 -- every step keeps it, whatever it answers
-past-step : (o : Outcome Timing) (c : Checker) (w : ℕ) → timingOf c.config ≡ o → HasPast c → HasPast (stepBy o c w).after
+past-step : (o : Outcome Timing) (c : Checker) (w : ℕ) → timing_of c.config ≡ o → HasPast c → HasPast (step_by o c w).after
 past-step (refused n) c w e h = h
 past-step (value t) c w e h =
-    cond-case P (clockFits c.clock c.met c.stamps) _ _
-    (λ _. cond-case P (eqb c.breach.number 0) _ _
-    (λ _. cond-case P (ltb c.clock 16777216) _ _
-    (λ l. cond-case P (eqb (wordBreach t c.stamps c.clock c.met w) 0) _ _
+    cond_case P (clock_fits c.clock c.met c.stamps) _ _
+    (λ _. cond_case P (eqb c.breach.number 0) _ _
+    (λ _. cond_case P (ltb c.clock 16777216) _ _
+    (λ l. cond_case P (eqb (word_breach t c.stamps c.clock c.met w) 0) _ _
     (λ _. rw (wired c.config t e) (past_next (four c) c.clock c.met c.stamps w h (ltb-true c.clock 16777216 l)))
     (λ _. h))
     (λ _. h))
@@ -116,17 +116,17 @@ past-step (value t) c w e h =
     P : Step → Type 0
     P r = HasPast r.after
 
-past_all : (c : Checker) (ws : List ℕ) → HasPast c → HasPast (afterAll c ws)
+past_all : (c : Checker) (ws : List ℕ) → HasPast c → HasPast (after_all c ws)
 past_all c [] h = h
-past_all c (w ∷ ws) h = past_all (step_of c w).after ws (past-step (timingOf c.config) c w refl h)
+past_all c (w ∷ ws) h = past_all (step_of c w).after ws (past-step (timing_of c.config) c w refl h)
 
-not-19 : (o : Outcome Timing) (c : Checker) (w : ℕ) → (o ≡ refused 19 → ⊥) → HasPast c → (stepBy o c w).outcome ≡ refused 19 → ⊥
+not-19 : (o : Outcome Timing) (c : Checker) (w : ℕ) → (o ≡ refused 19 → ⊥) → HasPast c → (step_by o c w).outcome ≡ refused 19 → ⊥
 not-19 (refused m) c w n h = λ e. n (ap refused (same_number e))
 not-19 (value t) c w n h =
-    cond-case P (clockFits c.clock c.met c.stamps) _ _
-    (λ _. cond-case P (eqb c.breach.number 0) _ _
-    (λ _. cond-case P (ltb c.clock 16777216) _ _
-    (λ l. cond-case P (eqb (wordBreach t c.stamps c.clock c.met w) 0) _ _ (λ _ e. refused-value (sym e))
+    cond_case P (clock_fits c.clock c.met c.stamps) _ _
+    (λ _. cond_case P (eqb c.breach.number 0) _ _
+    (λ _. cond_case P (ltb c.clock 16777216) _ _
+    (λ l. cond_case P (eqb (word_breach t c.stamps c.clock c.met w) 0) _ _ (λ _ e. refused-value (sym e))
     (λ _ e. refused-value (sym e)))
     (λ _. refused-by (λ q. omega arith)))
     (λ _. refused-by (λ q. omega arith)))
@@ -135,11 +135,11 @@ not-19 (value t) c w n h =
     P : Step → Type 0
     P r = r.outcome ≡ refused 19 → ⊥
 
-never-19 : (c : Config) (ws : List ℕ) (w : ℕ) → (step_of (afterAll (fresh c) ws) w).outcome ≡ refused 19 → ⊥
+never-19 : (c : Config) (ws : List ℕ) (w : ℕ) → (step_of (after_all (fresh c) ws) w).outcome ≡ refused 19 → ⊥
 never-19 c ws w =
-    let s = afterAll (fresh c) ws in
+    let s = after_all (fresh c) ws in
     let a = s.config in
-    not-19 (timingOf a) s w (config-below a 19 (omega arith))
+    not-19 (timing_of a) s w (config-below a 19 (omega arith))
     (past_all (fresh c) ws
     (record { phase = between idle; pairs = []; regular = (omega arith, tt); limit = omega arith; met = refl; stamps = refl }))
 

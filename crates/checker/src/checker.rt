@@ -1,6 +1,6 @@
 // The checker (the paper's examiner): a state that takes one word after the other.
 ghost use Rattle.std.specs.Prelude.{◌≡◌, ◌<◌};
-ghost use Rattle.checker.specs.Steps.{fresh, stepped, judged, stepBy, step_of};
+ghost use Rattle.checker.specs.Steps.{fresh, stepped, judged, step_by, step_of};
 ghost use Rattle.basics.specs.Outcome.{value};
 
 use basics::{LIMIT, Refusal};
@@ -106,7 +106,7 @@ impl Checker {
     }
 
     fn step_by(self, timing: Timing, word: u32) -> Stepped
-        ensures { stepped result ≡ stepBy (value timing) self word }
+        ensures { stepped result ≡ step_by (value timing) self word }
     {
         let stamps = self.stamps;
         if !clock_fits(self.clock, self.met, stamps) {

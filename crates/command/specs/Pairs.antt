@@ -15,20 +15,20 @@ abbrev pub lal : ℕ → Bool
 lal second = high 18 second
 
 -- RDA and LAL
-abbrev pub isRead : ℕ → ℕ → Bool
-isRead first second = rda first && lal second
+abbrev pub is_read : ℕ → ℕ → Bool
+is_read first second = rda first && lal second
 
 -- WRA and LAL
-abbrev pub isWrite : ℕ → ℕ → Bool
-isWrite first second = not (rda first) && lal second
+abbrev pub is_write : ℕ → ℕ → Bool
+is_write first second = not (rda first) && lal second
 
 -- RDA and MRS
-abbrev pub isMode : ℕ → ℕ → Bool
-isMode first second = rda first && not (lal second)
+abbrev pub is_mode : ℕ → ℕ → Bool
+is_mode first second = rda first && not (lal second)
 
 -- WRA and REF
-abbrev pub isRefresh : ℕ → ℕ → Bool
-isRefresh first second = not (rda first) && not (lal second)
+abbrev pub is_refresh : ℕ → ℕ → Bool
+is_refresh first second = not (rda first) && not (lal second)
 
 -- DESL as it is written (RULES 2.7)
 abbrev pub desl : ℕ

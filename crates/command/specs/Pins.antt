@@ -10,8 +10,8 @@ abbrev pub high : ℕ → ℕ → Bool
 high n w = eqb (pins n 1 w) 1
 
 -- the pin of a weight, 2 ^ n, is high: the code names pins so; there is no pin of weight 0
-abbrev pub highBy : ℕ → ℕ → Bool
-highBy pin w = not (eqb pin 0) && eqb (w / pin % 2) 1
+abbrev pub high_by : ℕ → ℕ → Bool
+high_by pin w = not (eqb pin 0) && eqb (w / pin % 2) 1
 
 -- a word's part with the number v on `width` pins, from pin n on
 abbrev pub put : ℕ → ℕ → ℕ → ℕ
@@ -27,5 +27,5 @@ abbrev pub drive : ℕ → Bool → ℕ
 drive n b = level b * 2 ^ n
 
 -- a bit above PD is set: rule 1 (RULES 4.1)
-abbrev pub strayBit : ℕ → Bool
-strayBit w = leb (2 ^ 20) w
+abbrev pub stray_bit : ℕ → Bool
+stray_bit w = leb (2 ^ 20) w

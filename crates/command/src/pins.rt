@@ -1,6 +1,6 @@
 // The weight of each pin in a word: a pin is high where the word's quotient by it is odd. And the leaves that drive pins.
 ghost use Rattle.std.specs.Prelude.{◌≡◌, cond, ◌≤◌};
-ghost use Rattle.command.specs.Pins.{level, highBy};
+ghost use Rattle.command.specs.Pins.{level, high_by};
 
 pub const A0: u32 = 0x1;
 
@@ -32,7 +32,7 @@ pub const PD: u32 = 0x80000;
 
 // The pin of this weight is high; there is none of weight 0.
 pub fn high(word: u32, pin: u32) -> bool
-    ensures { result ≡ highBy pin word }
+    ensures { result ≡ high_by pin word }
 {
     if pin == 0 {
         return false;

@@ -9,7 +9,7 @@ use borrow.Author.Tests.{leb-true, eqb-true}
 use lib.Dec.{leb, eqb, lit<, lit≤}
 use lib.ListN.{get_or}
 use native.Mathlib.Nat.{le_trans}
-use Rattle.config.specs.Configuration.{one_of, within, partFits, countsFit, leastPeriods, leastPeriod, periodFits}
+use Rattle.config.specs.Configuration.{one_of, within, part_fits, counts_fit, least_periods, least_period, period_fits}
 use Rattle.config.specs.declared.Config.{Config}
 
 -- both tests of a conjunction that holds
@@ -31,7 +31,7 @@ record Part (c : Config) : Type 0 where
   cl : within 3 5 c.cl ≡ true
   bl : one_of 2 4 c.bl ≡ true
 
-part-tests : (c : Config) → partFits c ≡ true → Part c
+part-tests : (c : Config) → part_fits c ≡ true → Part c
 part-tests c e =
     let grade = one_of 37 50 c.grade in
     let cl = within 3 5 c.cl in
@@ -40,10 +40,10 @@ part-tests c e =
     let h₂ = both (grade && cl) bl h₁.0 in
     record { cl = (both grade cl h₂.0).1; bl = h₂.1 }
 
-pub cl-bounds : (c : Config) → partFits c ≡ true → (3 ≤ c.cl) × (c.cl ≤ 5)
-cl-bounds c e = within-true 3 5 c.cl (part-tests c e).cl
+pub cl_bounds : (c : Config) → part_fits c ≡ true → (3 ≤ c.cl) × (c.cl ≤ 5)
+cl_bounds c e = within-true 3 5 c.cl (part-tests c e).cl
 
-pub bl-cases : (c : Config) → partFits c ≡ true → (c.bl ≡ 2) ⊎ (c.bl ≡ 4)
+pub bl-cases : (c : Config) → part_fits c ≡ true → (c.bl ≡ 2) ⊎ (c.bl ≡ 4)
 bl-cases c e =
     ⊎_elim (λ h. inl (eqb-true c.bl 2 h)) (λ h. inr (eqb-true c.bl 4 h)) (either (eqb c.bl 2) (eqb c.bl 4) (part-tests c e).bl)
 
@@ -54,8 +54,8 @@ pub record Counts (c : Config) : Type 0 where
   pub rsc : (2 ≤ c.rsc.0) × (c.rsc.0 ≤ 15)
   pub refc : (15 ≤ c.refc.0) × (c.refc.0 ≤ 63)
 
-pub count-bounds : (c : Config) → countsFit c ≡ true → Counts c
-count-bounds c e =
+pub count_bounds : (c : Config) → counts_fit c ≡ true → Counts c
+count_bounds c e =
     let rbd = within 2 7 c.rbd.0 in
     let rwd = within 1 7 c.rwd.0 in
     let wrd = within 1 7 c.wrd.0 in
@@ -77,7 +77,7 @@ row-bound true = lit< tt
 row-bound false = lit< tt
 
 -- the shortest period of the table
-entry-bound : (b : Bool) (k : ℕ) → k < 3 → 3750 ≤ get_or (get_or leastPeriods (cond b 0 1) []) k 0
+entry-bound : (b : Bool) (k : ℕ) → k < 3 → 3750 ≤ get_or (get_or least_periods (cond b 0 1) []) k 0
 entry-bound true zero h = lit≤ tt
 entry-bound true (suc zero) h = lit≤ tt
 entry-bound true (suc (suc zero)) h = lit≤ tt
@@ -87,9 +87,9 @@ entry-bound false (suc zero) h = lit≤ tt
 entry-bound false (suc (suc zero)) h = lit≤ tt
 entry-bound false (suc (suc (suc k))) h = omega arith
 
-pub period-bounds : (c : Config) → partFits c ≡ true → periodFits c ≡ true → (3750 ≤ c.period.0) × (c.period.0 ≤ 8500)
-period-bounds c part fits =
-    let cl = cl-bounds c part in
-    let h = within-true (leastPeriod c.grade c.cl) 8500 c.period.0 fits in
+pub period_bounds : (c : Config) → part_fits c ≡ true → period_fits c ≡ true → (3750 ≤ c.period.0) × (c.period.0 ≤ 8500)
+period_bounds c part fits =
+    let cl = cl_bounds c part in
+    let h = within-true (least_period c.grade c.cl) 8500 c.period.0 fits in
     let k : c.cl - 3 < 3 = omega arith in
     (le_trans (entry-bound (eqb c.grade 37) (c.cl - 3) k) h.0, h.1)

@@ -14,32 +14,32 @@ abbrev pub within : ℕ → ℕ → ℕ → Bool
 within low high n = leb low n && leb n high
 
 -- grade, CL, BL and organisation are each one that there is (RULES 1.1)
-abbrev pub partFits : Config → Bool
-partFits c = one_of 37 50 c.grade && within 3 5 c.cl && one_of 2 4 c.bl && one_of 16 8 c.organisation
+abbrev pub part_fits : Config → Bool
+part_fits c = one_of 37 50 c.grade && within 3 5 c.cl && one_of 2 4 c.bl && one_of 16 8 c.organisation
 
 -- the wiring is of eight banks or of four (RULES 1.6)
-abbrev pub wiringFits : Config → Bool
-wiringFits c = one_of 8 4 c.wiring
+abbrev pub wiring_fits : Config → Bool
+wiring_fits c = one_of 8 4 c.wiring
 
 -- the least periods in picoseconds (RULES 1.2): a row for each grade, a column for each CL
-abbrev pub leastPeriods : List (List ℕ)
-leastPeriods = (5500 ∷ 4500 ∷ 3750 ∷ []) ∷ (6000 ∷ 5500 ∷ 5000 ∷ []) ∷ []
+abbrev pub least_periods : List (List ℕ)
+least_periods = (5500 ∷ 4500 ∷ 3750 ∷ []) ∷ (6000 ∷ 5500 ∷ 5000 ∷ []) ∷ []
 
 -- the row of a grade
-abbrev pub gradeRow : ℕ → ℕ
-gradeRow grade = cond (eqb grade 37) 0 1
+abbrev pub grade_row : ℕ → ℕ
+grade_row grade = cond (eqb grade 37) 0 1
 
 -- the entry of a grade and a CL
-abbrev pub leastPeriod : ℕ → ℕ → ℕ
-leastPeriod grade cl = get_or (get_or leastPeriods (gradeRow grade) []) (cl - 3) 0
+abbrev pub least_period : ℕ → ℕ → ℕ
+least_period grade cl = get_or (get_or least_periods (grade_row grade) []) (cl - 3) 0
 
 -- the period is at least the table's and at most 8500 (RULES 1.1, 1.2)
-abbrev pub periodFits : Config → Bool
-periodFits c = within (leastPeriod c.grade c.cl) 8500 c.period.0
+abbrev pub period_fits : Config → Bool
+period_fits c = within (least_period c.grade c.cl) 8500 c.period.0
 
 -- each of the five counts of clocks is in its range (RULES 1.1)
-abbrev pub countsFit : Config → Bool
-countsFit c =
+abbrev pub counts_fit : Config → Bool
+counts_fit c =
     within 2 7 c.rbd.0
     && within 1 7 c.rwd.0
     && within 1 7 c.wrd.0
@@ -47,16 +47,16 @@ countsFit c =
     && within 15 63 c.refc.0
 
 -- at CL 4, REFC is not below 18 (RULES 1.5)
-abbrev pub refreshFits : Config → Bool
-refreshFits c = not (eqb c.cl 4 && ltb c.refc.0 18)
+abbrev pub refresh_fits : Config → Bool
+refresh_fits c = not (eqb c.cl 4 && ltb c.refc.0 18)
 
 -- RC by CL: the spacing of two reads or writes of one bank (RULES 1.3)
-abbrev pub rcOf : ℕ → ℕ
-rcOf cl = cond (eqb cl 5) 6 5
+abbrev pub rc_of : ℕ → ℕ
+rc_of cl = cond (eqb cl 5) 6 5
 
 -- S, the longest spacing of two reads or writes (RULES 1.3); RWD and WRD count from a LAL, so 1 is added to them
-abbrev pub spacingOf : ℕ → ℕ → ℕ → ℕ → ℕ
-spacingOf rc rbd rwd wrd = max (max rc rbd) (max (rwd + 1) (wrd + 1))
+abbrev pub spacing_of : ℕ → ℕ → ℕ → ℕ → ℕ
+spacing_of rc rbd rwd wrd = max (max rc rbd) (max (rwd + 1) (wrd + 1))
 
 -- the figures of a sheet (RULES 1.3): wl is WL, refi D, window W and spacing S; and whether it is wired for four banks
 abbrev pub derived : Config → Timing
@@ -71,16 +71,16 @@ derived c =
       wrd = c.wrd.0;
       rsc = c.rsc.0;
       refc = c.refc.0;
-      rc = rcOf c.cl;
+      rc = rc_of c.cl;
       wl = c.cl - 1;
       refi = 3900000 / c.period.0;
       window = 3200000 / c.period.0 + 1;
-      spacing = spacingOf (rcOf c.cl) c.rbd.0 c.rwd.0 c.wrd.0;
+      spacing = spacing_of (rc_of c.cl) c.rbd.0 c.rwd.0 c.wrd.0;
     }
 
 -- the figures that a timing holds (RULES 1.3), each under its own name
-abbrev pub figuresOf : Timing → Figures
-figuresOf t =
+abbrev pub figures_of : Timing → Figures
+figures_of t =
     record {
       cl = t.cl;
       bl = t.bl;
@@ -99,13 +99,13 @@ figuresOf t =
     }
 
 -- the figures of a sheet, or refusal 20, 34, 21, 22 or 33, tried in this order (RULES 7.1)
-abbrev pub timingOf : Config → Outcome Timing
-timingOf c =
-    require (partFits c) 20
-    (require (wiringFits c) 34
-    (require (periodFits c) 21
-    (require (countsFit c) 22
-    (require (refreshFits c) 33 (value (derived c))))))
+abbrev pub timing_of : Config → Outcome Timing
+timing_of c =
+    require (part_fits c) 20
+    (require (wiring_fits c) 34
+    (require (period_fits c) 21
+    (require (counts_fit c) 22
+    (require (refresh_fits c) 33 (value (derived c))))))
 
 -- sheet E (RULES 1.4)
 abbrev pub institute : Config
@@ -125,8 +125,8 @@ institute =
     }
 
 -- the configuration that eleven numbers make, in the order of RULES 1.1
-abbrev pub wiredOf : ℕ → ℕ → ℕ → ℕ → ℕ → ℕ → ℕ → ℕ → ℕ → ℕ → ℕ → Config
-wiredOf grade cl bl organisation period rbd rwd wrd rsc refc wiring =
+abbrev pub wired_of : ℕ → ℕ → ℕ → ℕ → ℕ → ℕ → ℕ → ℕ → ℕ → ℕ → ℕ → Config
+wired_of grade cl bl organisation period rbd rwd wrd rsc refc wiring =
     record {
       grade = grade;
       cl = cl;
@@ -142,5 +142,5 @@ wiredOf grade cl bl organisation period rbd rwd wrd rsc refc wiring =
     }
 
 -- the configuration that the first ten make: without its wiring a sheet has eight banks (RULES 1.6)
-abbrev pub configOf : ℕ → ℕ → ℕ → ℕ → ℕ → ℕ → ℕ → ℕ → ℕ → ℕ → Config
-configOf grade cl bl organisation period rbd rwd wrd rsc refc = wiredOf grade cl bl organisation period rbd rwd wrd rsc refc 8
+abbrev pub config_of : ℕ → ℕ → ℕ → ℕ → ℕ → ℕ → ℕ → ℕ → ℕ → ℕ → Config
+config_of grade cl bl organisation period rbd rwd wrd rsc refc = wired_of grade cl bl organisation period rbd rwd wrd rsc refc 8

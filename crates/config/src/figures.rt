@@ -1,6 +1,6 @@
 // The figures of a timing, for other crates to read.
 ghost use Rattle.std.specs.Prelude.{◌≡◌};
-ghost use Rattle.config.specs.Configuration.{figuresOf};
+ghost use Rattle.config.specs.Configuration.{figures_of};
 
 use crate::Timing;
 
@@ -25,7 +25,7 @@ pub struct Figures {
 
 impl Timing {
     pub fn figures(self) -> Figures
-        ensures { result ≡ figuresOf self }
+        ensures { result ≡ figures_of self }
     {
         Figures {
             cl: self.cl,

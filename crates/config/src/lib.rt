@@ -4,8 +4,8 @@ mod stored;
 mod wired;
 
 ghost use Rattle.std.specs.Prelude.{◌≡◌, ◌≤◌, ◌<◌, max};
-ghost use Rattle.config.specs.Configuration.{leastPeriod, partFits, wiringFits, periodFits, countsFit, refreshFits};
-ghost use Rattle.config.specs.Configuration.{derived, timingOf, institute};
+ghost use Rattle.config.specs.Configuration.{least_period, part_fits, wiring_fits, period_fits, counts_fit, refresh_fits};
+ghost use Rattle.config.specs.Configuration.{derived, timing_of, institute};
 ghost use Rattle.config.specs.Answers.{timingOutcome};
 
 use basics::{Refusal, choose};
@@ -82,7 +82,7 @@ fn greater(x: u32, y: u32) -> u32
 
 fn least_period(grade: u32, cl: u32) -> Picoseconds
     requires { (3 ≤ cl) × (cl ≤ 5) }
-    ensures { result.0 ≡ leastPeriod grade cl }
+    ensures { result.0 ≡ least_period grade cl }
 {
     let row = choose(grade == 37, 0, 1) as usize;
     let column = (cl - 3) as usize;
@@ -110,7 +110,7 @@ impl Config {
     }
 
     fn part_fits(self) -> bool
-        ensures { result ≡ partFits self }
+        ensures { result ≡ part_fits self }
     {
         ((self.grade == 37) | (self.grade == 50))
             & ((3 <= self.cl) & (self.cl <= 5))
@@ -119,21 +119,21 @@ impl Config {
     }
 
     fn wiring_fits(self) -> bool
-        ensures { result ≡ wiringFits self }
+        ensures { result ≡ wiring_fits self }
     {
         (self.wiring == 8) | (self.wiring == 4)
     }
 
     fn period_fits(self) -> bool
         requires { (3 ≤ self.cl) × (self.cl ≤ 5) }
-        ensures { result ≡ periodFits self }
+        ensures { result ≡ period_fits self }
     {
         let least = least_period(self.grade, self.cl);
         (least.0 <= self.period.0) & (self.period.0 <= GREATEST_PERIOD)
     }
 
     fn counts_fit(self) -> bool
-        ensures { result ≡ countsFit self }
+        ensures { result ≡ counts_fit self }
     {
         ((2 <= self.rbd.0) & (self.rbd.0 <= 7))
             & ((1 <= self.rwd.0) & (self.rwd.0 <= 7))
@@ -143,7 +143,7 @@ impl Config {
     }
 
     fn refresh_fits(self) -> bool
-        ensures { result ≡ refreshFits self }
+        ensures { result ≡ refresh_fits self }
     {
         !((self.cl == 4) & (self.refc.0 < 18))
     }
@@ -178,7 +178,7 @@ impl Config {
 
     // The timing of an accepted configuration, or the refusal: 20, 34, 21, 22 and 33, tried in this order.
     pub fn timing(self) -> TimingAnswer
-        ensures { timingOutcome result ≡ timingOf self }
+        ensures { timingOutcome result ≡ timing_of self }
     {
         if !self.part_fits() {
             return TimingAnswer::Refused(Refusal::Part);

@@ -1,6 +1,6 @@
 // A configuration by the numbers that were stored before there was a wiring.
 ghost use Rattle.std.specs.Prelude.{◌≡◌};
-ghost use Rattle.config.specs.Configuration.{configOf};
+ghost use Rattle.config.specs.Configuration.{config_of};
 
 use crate::Config;
 
@@ -18,7 +18,7 @@ impl Config {
         rsc: u32,
         refc: u32,
     ) -> Config
-        ensures { result ≡ configOf grade cl bl organisation period rbd rwd wrd rsc refc }
+        ensures { result ≡ config_of grade cl bl organisation period rbd rwd wrd rsc refc }
     {
         Config::wired(
             grade,

@@ -1,6 +1,6 @@
 // A configuration by its numbers.
 ghost use Rattle.std.specs.Prelude.{◌≡◌};
-ghost use Rattle.config.specs.Configuration.{wiredOf};
+ghost use Rattle.config.specs.Configuration.{wired_of};
 
 use crate::{Clocks, Config, Picoseconds};
 
@@ -19,7 +19,7 @@ impl Config {
         refc: u32,
         wiring: u32,
     ) -> Config
-        ensures { result ≡ wiredOf grade cl bl organisation period rbd rwd wrd rsc refc wiring }
+        ensures { result ≡ wired_of grade cl bl organisation period rbd rwd wrd rsc refc wiring }
     {
         Config {
             grade,

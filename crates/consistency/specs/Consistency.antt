@@ -2,7 +2,7 @@
 use Rattle.std.specs.Prelude.{ℕ, Bool, cond, ◌&&◌, ◌||◌, List, get_or, eqb, leb, ltb}
 use Rattle.basics.specs.Numbers.{limit}
 use Rattle.command.specs.Pairs.{selected}
-use Rattle.stamps.specs.Stamps.{isPoweredDown, isExiting}
+use Rattle.stamps.specs.Stamps.{is_powered_down, is_exiting}
 use Rattle.stamps.specs.declared.Timestamps.{Timestamps}
 
 -- an event, if it is remembered, is before the clock
@@ -10,8 +10,8 @@ abbrev pub before : ℕ → ℕ → Bool
 before k c = eqb c 0 || ltb c k
 
 -- each of eight events, if it is remembered, is before the clock
-abbrev pub eightBefore : ℕ → List ℕ → Bool
-eightBefore k cs =
+abbrev pub eight_before : ℕ → List ℕ → Bool
+eight_before k cs =
     before k (get_or cs 0 0)
     && before k (get_or cs 1 0)
     && before k (get_or cs 2 0)
@@ -22,21 +22,21 @@ eightBefore k cs =
     && before k (get_or cs 7 0)
 
 -- every event that is remembered lies before clock k
-abbrev pub stampsBefore : ℕ → Timestamps → Bool
-stampsBefore k s =
+abbrev pub stamps_before : ℕ → Timestamps → Bool
+stamps_before k s =
     before k s.extended
     && before k s.regular
     && before k s.mode
     && before k s.read
     && before k s.write
-    && eightBefore k s.banks
-    && eightBefore k s.refs
+    && eight_before k s.banks
+    && eight_before k s.refs
 
 -- how many words must stand before one that meets this: the first of an open pair, a low one, a low one and the first wake-up word
-abbrev pub wordsBefore : ℕ → ℕ
-wordsBefore first = cond (selected first) 1 (cond (isPoweredDown first) 1 (cond (isExiting first) 2 0))
+abbrev pub words_before : ℕ → ℕ
+words_before first = cond (selected first) 1 (cond (is_powered_down first) 1 (cond (is_exiting first) 2 0))
 
 -- no refusal 19 (RULES 6.19): the clock is at most 16,777,216, every event that is remembered is before it, and there are as many
 -- words before it as what the next one meets asks for
-abbrev pub clockFits : ℕ → ℕ → Timestamps → Bool
-clockFits clock first s = leb clock limit && stampsBefore clock s && leb (wordsBefore first) clock
+abbrev pub clock_fits : ℕ → ℕ → Timestamps → Bool
+clock_fits clock first s = leb clock limit && stamps_before clock s && leb (words_before first) clock

@@ -1,13 +1,13 @@
 // Whether a state's clock agrees with what the state remembers: one ground of refusal 19 (RULES 6.19).
 ghost use Rattle.std.specs.Prelude.{◌≡◌};
-ghost use Rattle.consistency.specs.Consistency.{eightBefore, stampsBefore, wordsBefore, clockFits};
+ghost use Rattle.consistency.specs.Consistency.{eight_before, stamps_before, words_before, clock_fits};
 
 use basics::{LIMIT, choose};
 use command::pins::{CS, high};
 use stamps::{Timestamps, is_exiting, is_powered_down};
 
 fn eight_before(clock: u32, stamps: [u32; 8]) -> bool
-    ensures { result ≡ eightBefore clock stamps }
+    ensures { result ≡ eight_before clock stamps }
 {
     ((stamps[0] == 0) | (stamps[0] < clock))
         & ((stamps[1] == 0) | (stamps[1] < clock))
@@ -21,7 +21,7 @@ fn eight_before(clock: u32, stamps: [u32; 8]) -> bool
 
 // Every event that is remembered is before the clock.
 fn stamps_before(clock: u32, stamps: Timestamps) -> bool
-    ensures { result ≡ stampsBefore clock stamps }
+    ensures { result ≡ stamps_before clock stamps }
 {
     let banks = stamps.banks;
     let refs = stamps.refs;
@@ -38,7 +38,7 @@ fn stamps_before(clock: u32, stamps: Timestamps) -> bool
 
 // How many words must stand before one that meets this.
 fn words_before(first: u32) -> u32
-    ensures { result ≡ wordsBefore first }
+    ensures { result ≡ words_before first }
 {
     let exiting = choose(is_exiting(first), 2, 0);
     let idle = choose(is_powered_down(first), 1, exiting);
@@ -47,7 +47,7 @@ fn words_before(first: u32) -> u32
 
 // The clock is within its limit, and nothing that is remembered contradicts it (otherwise 19).
 pub fn clock_fits(clock: u32, first: u32, stamps: Timestamps) -> bool
-    ensures { result ≡ clockFits clock first stamps }
+    ensures { result ≡ clock_fits clock first stamps }
 {
     let remembered = stamps_before(clock, stamps);
     (clock <= LIMIT) & remembered & (words_before(first) <= clock)

@@ -6,7 +6,7 @@ mod ticking;
 
 ghost use Rattle.std.specs.Prelude.{◌≡◌};
 ghost use Rattle.controller.specs.States.{fresh};
-ghost use Rattle.controller.specs.Steps.{offered, ticked, offerOf, tickOf};
+ghost use Rattle.controller.specs.Steps.{offered, ticked, offer_of, tick_of};
 
 use basics::Refusal;
 use command::Request;
@@ -72,7 +72,7 @@ impl Controller {
 
     // Takes a request: the configuration's refusals, then 19, 26 and 27; a refusal changes nothing.
     pub fn offer(self, request: Request) -> Offered
-        ensures { offered result ≡ offerOf self request }
+        ensures { offered result ≡ offer_of self request }
     {
         let config = self.config;
         match config.timing() {
@@ -83,7 +83,7 @@ impl Controller {
 
     // Gives the word for the clock: the configuration's refusals, then 19 and 24; a refusal changes nothing and gives word 0.
     pub fn tick(self) -> Ticked
-        ensures { ticked result ≡ tickOf self }
+        ensures { ticked result ≡ tick_of self }
     {
         let config = self.config;
         match config.timing() {

@@ -1,6 +1,6 @@
 // The pair that opens at a clock.
 ghost use Rattle.std.specs.Prelude.{◌≡◌, ◌<◌};
-ghost use Rattle.controller.specs.Steps.{passes, opensNext};
+ghost use Rattle.controller.specs.Steps.{passes, opens_next};
 
 use crate::Controller;
 use command::Pair;
@@ -22,7 +22,7 @@ fn passes(timing: Timing, stamps: Timestamps, clock: u32, pair: Pair) -> bool
 // The pair that opens at the clock, or none, where the request at a place is chosen. Where none comes next, no words are tested.
 pub(crate) fn opens_next(timing: Timing, controller: Controller, place: u32) -> OpenPair
     requires { controller.clock < 16777216 }
-    ensures { result ≡ opensNext timing controller place }
+    ensures { result ≡ opens_next timing controller place }
 {
     let stamps = controller.stamps;
     let clock = controller.clock;

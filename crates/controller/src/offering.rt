@@ -1,8 +1,8 @@
 // An offer on a timing: the request joins the queue, or is refused.
 ghost use Rattle.std.specs.Prelude.{◌≡◌, ◌<◌};
 ghost use Rattle.basics.specs.Outcome.{value};
-ghost use Rattle.basics.specs.Numbers.{refusalNumber};
-ghost use Rattle.controller.specs.Steps.{offered, joined, notOffered, offerBy};
+ghost use Rattle.basics.specs.Numbers.{refusal_number};
+ghost use Rattle.controller.specs.Steps.{offered, joined, not_offered, offer_by};
 
 use crate::state::{past_fits, requests_fit};
 use crate::{CallAnswer, Controller, Offered};
@@ -33,7 +33,7 @@ fn joined(controller: Controller, request: Request) -> Controller
 
 // A refused offer changes nothing.
 pub(crate) fn not_offered(controller: Controller, why: Refusal) -> Offered
-    ensures { offered result ≡ notOffered controller (refusalNumber why) }
+    ensures { offered result ≡ not_offered controller (refusal_number why) }
 {
     Offered {
         answer: CallAnswer::Refused(why),
@@ -44,7 +44,7 @@ pub(crate) fn not_offered(controller: Controller, why: Refusal) -> Offered
 // An offer, for whoever has the timing, whichever it is: 19, 26 and 27, in this order, and a refusal changes nothing; else the request goes
 // behind those that wait. The state's configuration is not looked at.
 pub fn offer_by(timing: Timing, controller: Controller, request: Request) -> Offered
-    ensures { offered result ≡ offerBy (value timing) controller request }
+    ensures { offered result ≡ offer_by (value timing) controller request }
 {
     if !(past_fits(controller) & requests_fit(timing, controller)) {
         return not_offered(controller, Refusal::State);

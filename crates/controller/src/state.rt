@@ -3,7 +3,7 @@
 ghost use Rattle.std.specs.Prelude.{◌≡◌, ◌&&◌};
 ghost use Rattle.queue.specs.Queue.{all_fit};
 ghost use Rattle.config.specs.declared.Timing.{Timing};
-ghost use Rattle.controller.specs.Steps.{held, stateFits};
+ghost use Rattle.controller.specs.Steps.{held, state_fits};
 
 use crate::Controller;
 use config::Timing;
@@ -13,7 +13,7 @@ use stamps::DESL;
 
 // The clock and the events agree, no pair is open at clock 0, at most sixteen wait, and an open read or write pair has its request.
 pub(crate) fn past_fits(controller: Controller) -> bool
-    ensures { (t : Timing) → stateFits t controller ≡ result && all_fit t (held controller) }
+    ensures { (t : Timing) → state_fits t controller ≡ result && all_fit t (held controller) }
 {
     let clock = controller.clock;
     let opened = controller.opened;

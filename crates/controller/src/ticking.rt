@@ -1,7 +1,7 @@
 // A tick on a timing: the word for the clock, or a refusal.
 ghost use Rattle.std.specs.Prelude.{◌≡◌, ◌<◌};
-ghost use Rattle.basics.specs.Numbers.{refusalNumber};
-ghost use Rattle.controller.specs.Steps.{ticked, starting, closing, notTicked, tickChoosing};
+ghost use Rattle.basics.specs.Numbers.{refusal_number};
+ghost use Rattle.controller.specs.Steps.{ticked, starting, closing, not_ticked, tick_choosing};
 
 use crate::next::opens_next;
 use crate::state::{past_fits, requests_fit};
@@ -69,7 +69,7 @@ fn closing(timing: Timing, controller: Controller) -> Ticked
 
 // A refused tick changes nothing and gives word 0.
 pub(crate) fn not_ticked(controller: Controller, why: Refusal) -> Ticked
-    ensures { ticked result ≡ notTicked controller (refusalNumber why) }
+    ensures { ticked result ≡ not_ticked controller (refusal_number why) }
 {
     Ticked {
         answer: CallAnswer::Refused(why),
@@ -82,7 +82,7 @@ pub(crate) fn not_ticked(controller: Controller, why: Refusal) -> Ticked
 // changes nothing and gives word 0; else the word for the clock. A place at the count or past it chooses none. The choice counts where no
 // pair is open, the start-up is done and no refresh is due. The state's configuration is not looked at.
 pub fn tick_choosing(timing: Timing, controller: Controller, place: u32) -> Ticked
-    ensures { ticked result ≡ tickChoosing timing controller place }
+    ensures { ticked result ≡ tick_choosing timing controller place }
 {
     if !(past_fits(controller) & requests_fit(timing, controller)) {
         return not_ticked(controller, Refusal::State);

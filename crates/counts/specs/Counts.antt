@@ -2,56 +2,56 @@
 -- is judged.
 use Rattle.std.specs.Prelude.{ℕ, ◌+◌, Bool, not, ◌||◌, List, [], ◌∷◌, length, leb}
 use Rattle.basics.specs.Outcome.{Outcome, value, refused, require, given}
-use Rattle.basics.specs.Numbers.{refusalNumber}
-use Rattle.config.specs.Configuration.{timingOf}
+use Rattle.basics.specs.Numbers.{refusal_number}
+use Rattle.config.specs.Configuration.{timing_of}
 use Rattle.config.specs.declared.Config.{Config}
 use Rattle.config.specs.declared.Timing.{Timing}
 use Rattle.command.specs.Pins.{high, level}
 use Rattle.command.specs.Pairs.{selected}
-use Rattle.reading.specs.Reading.{operationOf, burstOf}
-use Rattle.rules.specs.History.{ClosedPair, Phase, pair, between, Past, nothing, extend, pastFrom}
-use Rattle.rules.specs.Rules.{wasRead, wasWrite, wasMode, wasRefresh}
+use Rattle.reading.specs.Reading.{operation_of, burst_of}
+use Rattle.rules.specs.History.{ClosedPair, Phase, pair, between, Past, nothing, extend, past_from}
+use Rattle.rules.specs.Rules.{was_read, was_write, was_mode, was_refresh}
 use Rattle.counts.specs.declared.CommandCounts.{CommandCounts}
 use Rattle.counts.specs.declared.CountsAnswer.{CountsAnswer}
 use Rattle.counts.specs.declared.CountsAnswer.TheVariants.{Counted, Refused}
 
 -- how many closed pairs have a property
-abbrev pub howMany : (ClosedPair → Bool) → List ClosedPair → ℕ
-howMany f [] = 0
-howMany f (p ∷ ps) = level (f p) + howMany f ps
+abbrev pub how_many : (ClosedPair → Bool) → List ClosedPair → ℕ
+how_many f [] = 0
+how_many f (p ∷ ps) = level (f p) + how_many f ps
 
 -- 1 for DESL, which is CS high where no pair is open (RULES 2.2); a word with PD low counts as one there, whatever its CS (RULES 2.8)
-abbrev pub deslAt : Phase → ℕ → ℕ
-deslAt (pair first) w = 0
-deslAt (between r) w = level (not (high 19 w) || not (selected w))
+abbrev pub desl_at : Phase → ℕ → ℕ
+desl_at (pair first) w = 0
+desl_at (between r) w = level (not (high 19 w) || not (selected w))
 
 -- the DESL words after a past
-abbrev pub deslsFrom : Past → List ℕ → ℕ
-deslsFrom p [] = 0
-deslsFrom p (w ∷ ws) = deslAt p.phase w + deslsFrom (extend p w) ws
+abbrev pub desls_from : Past → List ℕ → ℕ
+desls_from p [] = 0
+desls_from p (w ∷ ws) = desl_at p.phase w + desls_from (extend p w) ws
 
 -- the clocks of data of closed pairs (RULES 9.1): the data lengths, added up, of each the one that its reading gives, which is 0 for all
 -- but reads and writes (RULES 3.6)
-abbrev pub dataClocks : Timing → List ClosedPair → ℕ
-dataClocks t [] = 0
-dataClocks t (p ∷ ps) = burstOf t (operationOf t p.first p.second) + dataClocks t ps
+abbrev pub data_clocks : Timing → List ClosedPair → ℕ
+data_clocks t [] = 0
+data_clocks t (p ∷ ps) = burst_of t (operation_of t p.first p.second) + data_clocks t ps
 
 -- the six counts, on a sheet
-abbrev pub countsOf : Timing → List ℕ → CommandCounts
-countsOf t words =
-    let pairs = (pastFrom nothing words).pairs in
+abbrev pub counts_of : Timing → List ℕ → CommandCounts
+counts_of t words =
+    let pairs = (past_from nothing words).pairs in
     record {
-      reads = howMany wasRead pairs;
-      writes = howMany wasWrite pairs;
-      modes = howMany wasMode pairs;
-      refreshes = howMany wasRefresh pairs;
-      desls = deslsFrom nothing words;
-      clocks = record { 0 = dataClocks t pairs };
+      reads = how_many was_read pairs;
+      writes = how_many was_write pairs;
+      modes = how_many was_mode pairs;
+      refreshes = how_many was_refresh pairs;
+      desls = desls_from nothing words;
+      clocks = record { 0 = data_clocks t pairs };
     }
 
 -- the counts of a refused call: all are 0 (RULES 7.2)
-abbrev pub noCounts : CommandCounts
-noCounts = record { reads = 0; writes = 0; modes = 0; refreshes = 0; desls = 0; clocks = record { 0 = 0 } }
+abbrev pub no_counts : CommandCounts
+no_counts = record { reads = 0; writes = 0; modes = 0; refreshes = 0; desls = 0; clocks = record { 0 = 0 } }
 
 -- an answer in the paper's terms: 0 or the refusal's number, and the counts
 pub record Counting : Type 0 where
@@ -59,15 +59,15 @@ pub record Counting : Type 0 where
   pub counts : CommandCounts
 
 -- the answer of `count_commands`
-abbrev pub countingOutcome : CountsAnswer → Counting
-countingOutcome (Counted c) = record { number = 0; counts = c }
-countingOutcome (Refused r c) = record { number = refusalNumber r; counts = c }
+abbrev pub counting_outcome : CountsAnswer → Counting
+counting_outcome (Counted c) = record { number = 0; counts = c }
+counting_outcome (Refused r c) = record { number = refusal_number r; counts = c }
 
 -- these counts, or a refusal with counts that are all 0 (RULES 7.2)
 abbrev pub counting : Outcome CommandCounts → Counting
 counting (value c) = record { number = 0; counts = c }
-counting (refused n) = record { number = n; counts = noCounts }
+counting (refused n) = record { number = n; counts = no_counts }
 
 -- the counts of at most 65,536 words; or the sheet's refusals, then 30, and counts that are all 0 (RULES 6.30, 7.2)
-abbrev pub countingOf : Config → List ℕ → Counting
-countingOf s words = counting (given (timingOf s) (λ t. require (leb (length words) 65536) 30 (value (countsOf t words))))
+abbrev pub counting_of : Config → List ℕ → Counting
+counting_of s words = counting (given (timing_of s) (λ t. require (leb (length words) 65536) 30 (value (counts_of t words))))

@@ -1,8 +1,8 @@
 // How often each command stands in a trace, and how long its data last (the paper's tally). It judges nothing.
 ghost use Rattle.std.specs.Prelude.{◌≡◌, ◌≤◌, length};
-ghost use Rattle.rules.specs.Turns.{turnsOf};
-ghost use Rattle.counts.specs.Counts.{noCounts, countingOutcome, countingOf};
-ghost use Rattle.counts.specs.OneTurn.{Below, withPair, withSingle, withTurns};
+ghost use Rattle.rules.specs.Turns.{turns_of};
+ghost use Rattle.counts.specs.Counts.{no_counts, counting_outcome, counting_of};
+ghost use Rattle.counts.specs.OneTurn.{Below, with_pair, with_single, with_turns};
 
 use basics::Refusal;
 use command::Pair;
@@ -42,7 +42,7 @@ const ZERO: CommandCounts = CommandCounts {
 // The counts with one more closed pair, of the kind that its two words make, and with its data.
 fn with_pair(timing: Timing, counts: CommandCounts, pair: Pair) -> CommandCounts
     requires { (timing.bl ≤ 4) × Below 65536 counts }
-    ensures { result ≡ withPair timing counts pair.first pair.second }
+    ensures { result ≡ with_pair timing counts pair.first pair.second }
 {
     let rda = high(pair.first, FN);
     let lal = high(pair.second, CS);
@@ -65,7 +65,7 @@ fn with_pair(timing: Timing, counts: CommandCounts, pair: Pair) -> CommandCounts
 // The counts with one more single word: DESL, or one with PD low. One that opens a pair, which the trace does not close, is not counted.
 fn with_single(counts: CommandCounts, word: u32) -> CommandCounts
     requires { Below 65536 counts }
-    ensures { result ≡ withSingle counts word }
+    ensures { result ≡ with_single counts word }
 {
     let mut more = counts;
     more.desls = bit(!opens_pair(word)) + counts.desls;
@@ -75,7 +75,7 @@ fn with_single(counts: CommandCounts, word: u32) -> CommandCounts
 // Each turn starts with no pair open, and takes both words of a closed pair or else a single word.
 fn counts_of(timing: Timing, words: &[u32]) -> CommandCounts
     requires { (timing.bl ≤ 4) × (length words.now ≤ 65536) }
-    ensures { result ≡ withTurns timing noCounts (turnsOf words.now) }
+    ensures { result ≡ with_turns timing no_counts (turns_of words.now) }
 {
     let mut counts = ZERO;
     let mut at = 0;
@@ -96,7 +96,7 @@ fn counts_of(timing: Timing, words: &[u32]) -> CommandCounts
 
 // Counts the commands of at most 65,536 words on a configuration: its refusals, then 30 for more.
 pub fn count_commands(config: Config, words: &[u32]) -> CountsAnswer
-    ensures { countingOutcome result ≡ countingOf config words.now }
+    ensures { counting_outcome result ≡ counting_of config words.now }
 {
     match config.timing() {
         TimingAnswer::Refused(why) => CountsAnswer::Refused(why, ZERO),

@@ -1,6 +1,6 @@
 -- What the walks over a `TraceCursor` have in common.
 --     Cursor κ               the struct's type, where its words are lent for κ
---     words_val, configVal, checkerVal, cursorVal      the machine values
+--     words_val, config_val, checker_val, cursor_val      the machine values
 --     checker-is             the relation of a struct's checker, from the struct's
 --     progress-made          what an answer owns is had for nothing
 --     words-typed …          a machine value that the relation relates to a value is of the type in MIR
@@ -33,7 +33,7 @@ use Rattle.config.proofs.Config.TheLaws as F'
 use Rattle.checker.specs.declared.checker.Checker.{Checker}
 use Rattle.checker.specs.contracts.checker.Checker as K
 use Rattle.checker.proofs.checker.Checker.TheLaws as K'
-use Rattle.borrowed.proofs.Behind.{owned-data}
+use Rattle.borrowed.proofs.Behind.{owned_data}
 use Rattle.cursor.specs.declared.TraceCursor.{TraceCursor}
 use Rattle.walks.specs.declared.Moved.{Moved}
 use Rattle.walks.specs.declared.Progress.{Progress}
@@ -60,22 +60,22 @@ Cursor κ = T.the_row (α κ)
 abbrev pub words_val : Bor (List ℕ) → Val
 words_val s = slice_val s.ref_ptr (length s.now)
 
-abbrev pub configVal : Config → Val
-configVal c = LL.val F.the_type F'.the_laws c
+abbrev pub config_val : Config → Val
+config_val c = LL.val F.the_type F'.the_laws c
 
-abbrev pub checkerVal : Checker → Val
-checkerVal k = LL.val K.the_type K'.the_laws k
+abbrev pub checker_val : Checker → Val
+checker_val k = LL.val K.the_type K'.the_laws k
 
-abbrev pub cursorVal : Lft → TraceCursor → Val
-cursorVal κ d = LL.val (D κ) (L κ) d
+abbrev pub cursor_val : Lft → TraceCursor → Val
+cursor_val κ d = LL.val (D κ) (L κ) d
 
-abbrev pub with-checker : TraceCursor → Checker → TraceCursor
-with-checker d k = record { words = d.words; checker = k }
+abbrev pub with_checker : TraceCursor → Checker → TraceCursor
+with_checker d k = record { words = d.words; checker = k }
 
 -- ---- the relations
-pub checker-is : (κ : Lft) (d : TraceCursor) → Is (Cursor κ) d (cursorVal κ d ∷ [])
-    → Is K.the_row d.checker (checkerVal d.checker ∷ [])
-checker-is κ d is = (LL.owed (D κ) (L κ) d _ is).1.0
+pub checker_is : (κ : Lft) (d : TraceCursor) → Is (Cursor κ) d (cursor_val κ d ∷ [])
+    → Is K.the_row d.checker (checker_val d.checker ∷ [])
+checker_is κ d is = (LL.owed (D κ) (L κ) d _ is).1.0
 
 -- ---- two parameters, words and another
 abbrev pub Words : Lft → Bor (List ℕ) → Fml
@@ -84,8 +84,8 @@ Words κ s = (ShrSlice (named 0) κ u32).own_val s (words_val s ∷ [])
 abbrev pub Both : Lft → Bor (List ℕ) → (R : RattleType) → R.Denot → List Val → Fml
 Both κ s R x vs = owns (ShrSlice (named 0) κ u32 ∷ R ∷ []) (s, (x, tt)) (words_val s ∷ [], (vs, tt))
 
-pub progress-made : {M : Type 1} {𝓤 : Ura M} (𝓛 : Logic 𝓤) → Makes 𝓛 P.the_row (Is P.the_row)
-progress-made 𝓛 = EL.makes P.the_type P'.the_plain 𝓛
+pub progress_made : {M : Type 1} {𝓤 : Ura M} (𝓛 : Logic 𝓤) → Makes 𝓛 P.the_row (Is P.the_row)
+progress_made 𝓛 = EL.makes P.the_type P'.the_plain 𝓛
 
 module _ {M : Type 1} {𝓤 : Ura M} (𝓛 : Logic 𝓤) where
   pub words-typed : (κ : Lft) (s : Bor (List ℕ)) → Is (ShrSlice (named 0) κ u32) s (words_val s ∷ []) → WT (words_val s)
@@ -98,16 +98,16 @@ module _ {M : Type 1} {𝓤 : Ura M} (𝓛 : Logic 𝓤) where
   moved-typed m w is = ((LL.lawful N.the_type N'.the_laws 𝓛).typed m _ is).0
 
   -- at any name of the lifetime, as a result has it and as a local does
-  pub cursor-typed : (ℓ : Lifetime) (κ : Lft) (d : TraceCursor) (w : Val) → Is (Cursor κ) d (w ∷ []) → Holds (has_ty (T'.mir ℓ) w) × WT w
-  cursor-typed ℓ κ d w is =
+  pub cursor_typed : (ℓ : Lifetime) (κ : Lft) (d : TraceCursor) (w : Val) → Is (Cursor κ) d (w ∷ []) → Holds (has_ty (T'.mir ℓ) w) × WT w
+  cursor_typed ℓ κ d w is =
       let β : NamedLft = record { mir = ℓ; lft = κ } in
       ((LL.lawful (T.the_type β) (T'.the_laws β) 𝓛).typed d _ is).0
 
   -- ---- another checker in the struct: what the words own is kept, and the checker's facts are those of the new one
-  pub changed : (κ : Lft) (d : TraceCursor) (w : Val) (k : Checker) → Is K.the_row k (checkerVal k ∷ [])
-      → ent 𝓤 (sem 𝓛 ((Cursor κ).own_val d (w ∷ []))) (sem 𝓛 ((Cursor κ).own_val (with-checker d k) (cursorVal κ (with-checker d k) ∷ [])))
+  pub changed : (κ : Lft) (d : TraceCursor) (w : Val) (k : Checker) → Is K.the_row k (checker_val k ∷ [])
+      → ent 𝓤 (sem 𝓛 ((Cursor κ).own_val d (w ∷ []))) (sem 𝓛 ((Cursor κ).own_val (with_checker d k) (cursor_val κ (with_checker d k) ∷ [])))
   changed κ d w k is =
-      qed 𝓛 (‵ ((Cursor κ).own_val d (w ∷ [])) ∷ []) ∵ owned-data ! K.the_type K'.the_plain k _ is $ move ! (1 ∷ 0 ∷ []) $
+      qed 𝓛 (‵ ((Cursor κ).own_val d (w ∷ [])) ∷ []) ∵ owned_data ! K.the_type K'.the_plain k _ is $ move ! (1 ∷ 0 ∷ []) $
       by ! (own_put 𝓛 (D κ) (L κ) 1 (d.words, (d.checker, tt)) k w)
 
   -- ---- what the two parameters own

@@ -1,6 +1,6 @@
 // How long a trace lasts in nanoseconds, from its word count and the sheet's period.
 ghost use Rattle.std.specs.Prelude.{◌≡◌, ◌*◌, ◌≤◌};
-ghost use Rattle.duration.specs.Duration.{inNanoseconds, durationOf};
+ghost use Rattle.duration.specs.Duration.{in_nanoseconds, duration_of};
 ghost use Rattle.duration.specs.Answers.{durationOutcome};
 
 use basics::{LIMIT, Refusal};
@@ -30,7 +30,7 @@ fn picoseconds(count: usize, period: Picoseconds) -> u64
 
 fn in_nanoseconds(picoseconds: u64) -> Duration
     requires { picoseconds ≤ 16777216 * 8500 }
-    ensures { result ≡ inNanoseconds picoseconds }
+    ensures { result ≡ in_nanoseconds picoseconds }
 {
     Duration {
         whole: Nanoseconds((picoseconds / 1000) as u32),
@@ -40,7 +40,7 @@ fn in_nanoseconds(picoseconds: u64) -> Duration
 
 // How long a trace of so many words lasts on the sheet. Refuses by the sheet's numbers, then by 32 for more than 16,777,216 words.
 pub fn trace_duration(config: Config, count: usize) -> DurationAnswer
-    ensures { durationOutcome result ≡ durationOf config count }
+    ensures { durationOutcome result ≡ duration_of config count }
 {
     match config.timing() {
         TimingAnswer::Refused(why) => DurationAnswer::Refused(why),

@@ -1,7 +1,7 @@
 // Rules 1 to 3, which every word is held to.
 ghost use Rattle.std.specs.Prelude.{◌≡◌, [], ◌∷◌};
 ghost use Rattle.rules.specs.Rules.{lowest};
-ghost use Rattle.rules.specs.Breaches.{deadline, earlyBreach};
+ghost use Rattle.rules.specs.Breaches.{deadline, early_breach};
 
 // The number of the first of rules 1 to 3 whose test holds, or 0.
 fn lowest_early(stray: bool, low: bool, overdue: bool) -> u32
@@ -35,7 +35,7 @@ pub fn deadline(refi: u32, refs: [u32; 8]) -> u64
 // The lowest of rules 1 to 3 that a word breaches, or 0. `low` says whether it breaches rule 2, and `last` is the last clock that rule 3
 // allows, or 0 where it allows any.
 pub fn early_breach(low: bool, last: u64, clock: u32, word: u32) -> u32
-    ensures { result ≡ earlyBreach low last clock word }
+    ensures { result ≡ early_breach low last clock word }
 {
     let overdue = !(last == 0) & (last < clock as u64);
     lowest_early(0x100000 <= word, low, overdue)

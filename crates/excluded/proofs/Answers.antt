@@ -5,7 +5,7 @@ use mathlib.Core.List.{List, [], ◌∷◌}
 use mathlib.Core.Option.{Option, none, some}
 use lib.ListN.{get_or}
 use Rattle.basics.specs.Outcome.{Outcome, value, refused}
-use Rattle.basics.specs.Numbers.{refusalNumber}
+use Rattle.basics.specs.Numbers.{refusal_number}
 use Rattle.config.specs.Answers.{timingOutcome}
 use Rattle.config.specs.declared.Timing.{Timing}
 use Rattle.config.specs.declared.TimingAnswer.{TimingAnswer}
@@ -35,23 +35,23 @@ use Rattle.reading.specs.declared.Decoded.{Decoded}
 use Rattle.reading.specs.declared.ReadAnswer.{ReadAnswer}
 use Rattle.writing.specs.declared.WriteAnswer.{WriteAnswer}
 use Rattle.rules.specs.Verdict.{Judgement, accepted, breach}
-use Rattle.checker.specs.Steps.{verdictOutcome}
+use Rattle.checker.specs.Steps.{verdict_outcome}
 use Rattle.checker.specs.declared.checker.Verdict.{Verdict}
-use Rattle.limits.specs.Limits.{Finding, always, breachOn}
+use Rattle.limits.specs.Limits.{Finding, always, breach_on}
 use Rattle.limits.specs.Answers.{findingOutcome}
 use Rattle.limits.specs.declared.LimitsAnswer.{LimitsAnswer}
 use Rattle.duration.specs.Answers.{durationOutcome}
 use Rattle.duration.specs.declared.Duration.{Duration}
 use Rattle.duration.specs.declared.DurationAnswer.{DurationAnswer}
 use Rattle.rules.specs.Turns.{Turn, closed, single}
-use Rattle.turns.specs.OneTurn.{turnOutcome}
+use Rattle.turns.specs.OneTurn.{turn_outcome}
 use Rattle.turns.specs.declared.TurnAnswer.{TurnAnswer}
-use Rattle.counts.specs.Counts.{countingOutcome}
+use Rattle.counts.specs.Counts.{counting_outcome}
 use Rattle.counts.specs.declared.CommandCounts.{CommandCounts}
 use Rattle.counts.specs.declared.CountsAnswer.{CountsAnswer}
-use Rattle.controller.specs.Steps.{callOutcome}
+use Rattle.controller.specs.Steps.{call_outcome}
 use Rattle.controller.specs.declared.CallAnswer.{CallAnswer}
-use Rattle.walks.specs.Walk.{Reached, passed, breached, ended, progressOutcome}
+use Rattle.walks.specs.Walk.{Reached, passed, breached, ended, progress_outcome}
 use Rattle.walks.specs.declared.Progress.{Progress}
 use Rattle.excluded.specs.Excluded.{Injective, Answers}
 
@@ -84,7 +84,7 @@ refusals =
 abbrev named : ℕ → Option Refusal
 named n = get_or refusals (n - 18) none
 
-named-is : (r : Refusal) → named (refusalNumber r) ≡ some r
+named-is : (r : Refusal) → named (refusal_number r) ≡ some r
 named-is State = refl
 named-is Part = refl
 named-is Period = refl
@@ -109,7 +109,7 @@ orState (some r) = r
 abbrev refusal : ℕ → Refusal
 refusal n = orState (named n)
 
-refusal_is : (r : Refusal) → refusal (refusalNumber r) ≡ r
+refusal_is : (r : Refusal) → refusal (refusal_number r) ≡ r
 refusal_is r = ap orState (named-is r)
 
 timing : Outcome Timing → TimingAnswer
@@ -144,7 +144,7 @@ verdict (value accepted) = Verdict.Accepted
 verdict (value (breach k n)) = Verdict.InBreach (record { clock = k; number = n })
 verdict (refused n) = Verdict.Refused (refusal n)
 
-verdict-is : (x : Verdict) → verdict (verdictOutcome x) ≡ x
+verdict-is : (x : Verdict) → verdict (verdict_outcome x) ≡ x
 unfolding verdict
 verdict-is Verdict.Accepted = refl
 verdict-is (Verdict.InBreach b) = refl
@@ -152,7 +152,7 @@ verdict-is (Verdict.Refused r) = ap Verdict.Refused (refusal_is r)
 
 within : Outcome Finding → LimitsAnswer
 within (value always) = LimitsAnswer.Always
-within (value (breachOn c k n)) = LimitsAnswer.InBreach c (record { clock = k; number = n })
+within (value (breach_on c k n)) = LimitsAnswer.InBreach c (record { clock = k; number = n })
 within (refused n) = LimitsAnswer.Refused (refusal n)
 
 within-is : (x : LimitsAnswer) → within (findingOutcome x) ≡ x
@@ -175,7 +175,7 @@ counted : Option Refusal → CommandCounts → CountsAnswer
 counted none c = CountsAnswer.Counted c
 counted (some r) c = CountsAnswer.Refused r c
 
-counting-is : (x : CountsAnswer) → counted (named (countingOutcome x).number) (countingOutcome x).counts ≡ x
+counting-is : (x : CountsAnswer) → counted (named (counting_outcome x).number) (counting_outcome x).counts ≡ x
 unfolding counted
 counting-is (CountsAnswer.Counted c) = refl
 counting-is (CountsAnswer.Refused r c) = ap (λ o. counted o c) (named-is r)
@@ -185,7 +185,7 @@ turned [] n = TurnAnswer.End
 turned (closed p ∷ xs) n = TurnAnswer.Closed (record { first = p.first; second = p.second }) n
 turned (single k w ∷ xs) n = TurnAnswer.Single w n
 
-turned-is : (at : ℕ) (x : TurnAnswer) → turned (turnOutcome at x).turn (turnOutcome at x).next ≡ x
+turned-is : (at : ℕ) (x : TurnAnswer) → turned (turn_outcome at x).turn (turn_outcome at x).next ≡ x
 unfolding turned
 turned-is at (TurnAnswer.Closed p n) = refl
 turned-is at (TurnAnswer.Single w n) = refl
@@ -195,7 +195,7 @@ call : Outcome (Unit {0}) → CallAnswer
 call (value u) = CallAnswer.Accepted
 call (refused n) = CallAnswer.Refused (refusal n)
 
-call-is : (x : CallAnswer) → call (callOutcome x) ≡ x
+call-is : (x : CallAnswer) → call (call_outcome x) ≡ x
 unfolding call
 call-is CallAnswer.Accepted = refl
 call-is (CallAnswer.Refused r) = ap CallAnswer.Refused (refusal_is r)
@@ -206,29 +206,29 @@ progress (value (breached k n)) = Progress.InBreach (record { clock = k; number 
 progress (value ended) = Progress.End
 progress (refused n) = Progress.Refused (refusal n)
 
-progress-is : (x : Progress) → progress (progressOutcome x) ≡ x
+progress-is : (x : Progress) → progress (progress_outcome x) ≡ x
 unfolding progress
 progress-is Progress.Passed = refl
 progress-is (Progress.InBreach b) = refl
 progress-is (Progress.Refused r) = ap Progress.Refused (refusal_is r)
 progress-is Progress.End = refl
 
-same-verdict : Injective verdictOutcome
-same-verdict = inverted verdictOutcome verdict verdict-is
+same-verdict : Injective verdict_outcome
+same-verdict = inverted verdict_outcome verdict verdict-is
 
-same-call : Injective callOutcome
-same-call = inverted callOutcome call call-is
+same-call : Injective call_outcome
+same-call = inverted call_outcome call call-is
 
-pub same-counting : Injective countingOutcome
-same-counting = inverted countingOutcome (λ k. counted (named k.number) k.counts) counting-is
+pub same-counting : Injective counting_outcome
+same-counting = inverted counting_outcome (λ k. counted (named k.number) k.counts) counting-is
 
-pub same-progress : Injective progressOutcome
-same-progress = inverted progressOutcome progress progress-is
+pub same-progress : Injective progress_outcome
+same-progress = inverted progress_outcome progress progress-is
 
 pub answers : Answers
 answers =
     record {
-      refusal = inverted refusalNumber refusal refusal_is;
+      refusal = inverted refusal_number refusal refusal_is;
       timing = inverted timingOutcome timing timing-is;
       read = inverted readOutcome read read_is;
       write = inverted writeOutcome write write-is;
@@ -237,7 +237,7 @@ answers =
       within = inverted findingOutcome within within-is;
       duration = inverted durationOutcome duration duration-is;
       counting = same-counting;
-      turn = λ at. inverted (turnOutcome at) (λ r. turned r.turn r.next) (turned-is at);
+      turn = λ at. inverted (turn_outcome at) (λ r. turned r.turn r.next) (turned-is at);
       call = same-call;
       offer = λ x y e i. record { answer = same-call x.answer y.answer (ap (λ r. r.outcome) e) i; controller = (e i).after };
       tick =

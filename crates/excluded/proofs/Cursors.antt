@@ -17,10 +17,10 @@ same-words e f p = let z : ◌≡◌ {A = ℕ} 0 1 = ap length (sym e ∙ p ∙ 
 pub cursors : Cursors
 cursors =
     record {
-      new-at-clock-1 = λ words r e p. let z : ◌≡◌ {A = ℕ} 1 0 = sym e ∙ ap (λ k. k.clock) p.1 in omega arith;
-      new-without-words = λ words r e f p. same-words f e (ap (λ w. w.now) p.0);
+      new_at-clock-1 = λ words r e p. let z : ◌≡◌ {A = ℕ} 1 0 = sym e ∙ ap (λ k. k.clock) p.1 in omega arith;
+      new_without-words = λ words r e f p. same-words f e (ap (λ w. w.now) p.0);
       advance-stays = λ a p. let z : ◌≡◌ {A = ℕ} 0 1 = ap (λ m. m.after.clock) p in omega arith;
       advance-ends-early = λ after p. not-ended (ap (λ m. m.outcome) p);
       advance-past-a-breach = λ a after e p. let z : ◌≡◌ {A = ℕ} 1 0 = sym e ∙ ap (λ m. m.after.clock) p in omega arith;
-      advance-words-lost = λ s after a e f p. same-words f e (ap (λ w. w.now) p.0);
+      advance-words_lost = λ s after a e f p. same-words f e (ap (λ w. w.now) p.0);
     }

@@ -7,30 +7,30 @@ use borrow.Author.Tests.{eqb-true, eqb-false}
 use lib.ListN.{length, replicate}
 use lib.Dec.{eqb, leb, ltb}
 use Rattle.basics.specs.Outcome.{Outcome, value, refused}
-use Rattle.config.specs.Configuration.{timingOf}
+use Rattle.config.specs.Configuration.{timing_of}
 use Rattle.config.specs.declared.Config.{Config}
 use Rattle.config.specs.declared.Timing.{Timing}
 use Rattle.basics.proofs.Outcomes.{refused-value, require-value, given-value}
 use Rattle.words.specs.Words.{words_of}
-use Rattle.rules.specs.Verdict.{Judgement, accepted, breach, judgeFrom, judge, checkOf, checkBytesOf}
+use Rattle.rules.specs.Verdict.{Judgement, accepted, breach, judge_from, judge, check_of, check_bytes_of}
 use Rattle.rules.specs.History.{free}
-use Rattle.rules.specs.Breaches.{wordBreach}
-use Rattle.consistency.specs.Consistency.{clockFits}
-use Rattle.checker.specs.Steps.{Step, verdictOutcome, fresh, refusing, judged, stepBy, step_of}
+use Rattle.rules.specs.Breaches.{word_breach}
+use Rattle.consistency.specs.Consistency.{clock_fits}
+use Rattle.checker.specs.Steps.{Step, verdict_outcome, fresh, refusing, judged, step_by, step_of}
 use Rattle.checker.specs.declared.checker.Checker.{Checker}
 use Rattle.checker.specs.declared.checker.Verdict.{Verdict}
-use Rattle.checker.proofs.Refinement.{cond-case}
-use Rattle.excluded.specs.Excluded.{NoStep, wrongMode, wrongModeBytes, Examiners}
+use Rattle.checker.proofs.Refinement.{cond_case}
+use Rattle.excluded.specs.Excluded.{NoStep, wrong_mode, wrong_mode_bytes, Examiners}
 
-check-judges : (c : Config) (ws : List ℕ) {j : Judgement} → value j ≡ checkOf c ws → (t : Timing) × (value (judge t ws) ≡ value j)
-check-judges c ws e =
-    let g = given-value (timingOf c) _ (sym e) in
+check_judges : (c : Config) (ws : List ℕ) {j : Judgement} → value j ≡ check_of c ws → (t : Timing) × (value (judge t ws) ≡ value j)
+check_judges c ws e =
+    let g = given-value (timing_of c) _ (sym e) in
     (g.0, (require-value (leb (length ws) 16777216) _ _ g.2).1)
 
-bytes-judge : (c : Config) (bytes : List ℕ) {j : Judgement} → value j ≡ checkBytesOf c bytes
+bytes-judge : (c : Config) (bytes : List ℕ) {j : Judgement} → value j ≡ check_bytes_of c bytes
     → (t : Timing) × (value (judge t (words_of bytes)) ≡ value j)
 bytes-judge c bytes e =
-    let g = given-value (timingOf c) _ (sym e) in
+    let g = given-value (timing_of c) _ (sym e) in
     let whole = require-value (eqb (length bytes % 4) 0) _ _ g.2 in
     (g.0, (require-value (leb (length bytes / 4) 16777216) _ _ whole.1).1)
 
@@ -40,22 +40,22 @@ breach-accepted e = let z : ◌≡◌ {A = ℕ} 0 1 = cc in omega arith
 accepted-breach : {k n : ℕ} → value accepted ≡ value (breach k n) → ⊥
 accepted-breach e = breach-accepted (sym e)
 
-desls-pass : (t : Timing) (n k : ℕ) → judgeFrom t (record { clock = k; phase = free; pairs = [] }) (replicate n 0xC0000) ≡ accepted
-desls-pass t zero k = refl
-desls-pass t (suc n) k = desls-pass t n (k + 1)
+desls_pass : (t : Timing) (n k : ℕ) → judge_from t (record { clock = k; phase = free; pairs = [] }) (replicate n 0xC0000) ≡ accepted
+desls_pass t zero k = refl
+desls_pass t (suc n) k = desls_pass t n (k + 1)
 
 -- what holds of a refusal, and of a word that is judged where no breach is recorded, holds of a step
 step_case : (P : Step → Type 0) (s : Checker) (w : ℕ) → ((n : ℕ) → P (refusing s n))
     → ((t : Timing) → s.breach.number ≡ 0 → P (judged t s w))
     → P (step_of s w)
-step_case P s w refuses judges = go (timingOf s.config)
+step_case P s w refuses judges = go (timing_of s.config)
   where
-    go : (o : Outcome Timing) → P (stepBy o s w)
+    go : (o : Outcome Timing) → P (step_by o s w)
     go (refused n) = refuses n
     go (value t) =
-        cond-case P (clockFits s.clock s.met s.stamps) _ _
-        (λ _. cond-case P (eqb s.breach.number 0) _ _
-        (λ e. cond-case P (ltb s.clock 16777216) _ _ (λ _. judges t (eqb-true s.breach.number 0 e)) (λ _. refuses 24))
+        cond_case P (clock_fits s.clock s.met s.stamps) _ _
+        (λ _. cond_case P (eqb s.breach.number 0) _ _
+        (λ e. cond_case P (ltb s.clock 16777216) _ _ (λ _. judges t (eqb-true s.breach.number 0 e)) (λ _. refuses 24))
         (λ _. refuses 23))
         (λ _. refuses 19)
 
@@ -65,43 +65,43 @@ pub record Moves (s : Checker) (r : Step) : Type 0 where
   pub stays : (r.outcome ≡ value accepted → ⊥) → r.after.clock ≡ s.clock
   pub records : {k n : ℕ} → r.outcome ≡ value (breach k n) → r.after.breach.number ≡ s.breach.number → ⊥
 
-pub step-moves : (s : Checker) (w : ℕ) → Moves s (step_of s w)
-step-moves s w =
+pub step_moves : (s : Checker) (w : ℕ) → Moves s (step_of s w)
+step_moves s w =
     step_case (Moves s) s w
     (λ n. record { passes = λ e. absurd (refused-value e); stays = λ _. refl; records = λ e _. refused-value e })
-    (λ t free. let n = wordBreach t s.stamps s.clock s.met w in
-    cond-case (Moves s) (eqb n 0) _ _
+    (λ t free. let n = word_breach t s.stamps s.clock s.met w in
+    cond_case (Moves s) (eqb n 0) _ _
     (λ _. record { passes = λ _. refl; stays = λ h. absurd (h refl); records = λ e _. accepted-breach e })
     (λ some. record { passes = λ e. absurd (breach-accepted e); stays = λ _. refl; records = λ _ e. eqb-false n 0 some (e ∙ free) }))
 
-no_step : (s after : Checker) (w : ℕ) (v : Verdict) → ((step_of s w).outcome ≡ verdictOutcome v → (step_of s w).after ≡ after → ⊥)
+no_step : (s after : Checker) (w : ℕ) (v : Verdict) → ((step_of s w).outcome ≡ verdict_outcome v → (step_of s w).after ≡ after → ⊥)
     → NoStep s w v after
 no_step s after w v h e = h (sym (ap (λ r. r.outcome) e)) (sym (ap (λ r. r.after) e))
 
 pub examiners : Examiners
 examiners =
     record {
-      check-accepts = λ c ws e. breach-accepted (check-judges c (0 ∷ ws) e).1;
-      bytes-accept = λ c bytes e. breach-accepted (bytes-judge c (0 ∷ 0 ∷ 0 ∷ 0 ∷ bytes) e).1;
+      check-accepts = λ c ws e. breach-accepted (check_judges c (0 ∷ ws) e).1;
+      bytes_accept = λ c bytes e. breach-accepted (bytes-judge c (0 ∷ 0 ∷ 0 ∷ 0 ∷ bytes) e).1;
       step-accepts =
           λ s after.
           no_step s after 0x100000 Verdict.Accepted
           (λ e _. step_case (λ r. r.outcome ≡ value accepted → ⊥) s 0x100000 (λ n. refused-value) (λ t _. breach-accepted) e);
-      check-breaches =
+      check_breaches =
           λ c n b e.
-          let j = check-judges c (replicate n 0xC0000) e in
-          accepted-breach (ap value (sym (desls-pass j.0 n 0)) ∙ j.1);
+          let j = check_judges c (replicate n 0xC0000) e in
+          accepted-breach (ap value (sym (desls_pass j.0 n 0)) ∙ j.1);
       bytes-breach =
           λ c bytes n b is e.
           let j = bytes-judge c bytes e in
-          accepted-breach (sym (ap value (ap (judge j.0) is ∙ desls-pass j.0 n 0)) ∙ j.1);
-      step-breaches =
+          accepted-breach (sym (ap value (ap (judge j.0) is ∙ desls_pass j.0 n 0)) ∙ j.1);
+      step_breaches =
           λ c b after.
           no_step (fresh c) after 0xC0000 (Verdict.InBreach b)
-          (λ e _. step_case (λ r. r.outcome ≡ verdictOutcome (Verdict.InBreach b) → ⊥) (fresh c) 0xC0000 (λ n. refused-value)
+          (λ e _. step_case (λ r. r.outcome ≡ verdict_outcome (Verdict.InBreach b) → ⊥) (fresh c) 0xC0000 (λ n. refused-value)
           (λ t _. accepted-breach) e);
-      step_stays = λ s after w h. no_step s after w Verdict.Accepted (λ o e. h (sym (ap (λ k. k.clock) e) ∙ (step-moves s w).passes o));
-      step-stays-in-breach = λ s w b. no_step s s w (Verdict.InBreach b) (λ o e. (step-moves s w).records o (ap (λ k. k.breach.number) e));
-      check-stays = λ c t v e p. breach-accepted {k = 1} {n = 4} (check-judges c wrongMode (sym e ∙ p)).1;
-      bytes-stay = λ c t v e p. breach-accepted {k = 1} {n = 4} (bytes-judge c wrongModeBytes (sym e ∙ p)).1;
+      step_stays = λ s after w h. no_step s after w Verdict.Accepted (λ o e. h (sym (ap (λ k. k.clock) e) ∙ (step_moves s w).passes o));
+      step-stays_in_breach = λ s w b. no_step s s w (Verdict.InBreach b) (λ o e. (step_moves s w).records o (ap (λ k. k.breach.number) e));
+      check-stays = λ c t v e p. breach-accepted {k = 1} {n = 4} (check_judges c wrong_mode (sym e ∙ p)).1;
+      bytes_stay = λ c t v e p. breach-accepted {k = 1} {n = 4} (bytes-judge c wrong_mode_bytes (sym e ∙ p)).1;
     }

@@ -7,44 +7,44 @@ use borrow.Author.Tests.{ltb-true, ltb-false}
 use lib.ListN.{length, get_or}
 use lib.Dec.{ltb}
 use Rattle.basics.specs.Outcome.{Outcome, value, refused}
-use Rattle.config.specs.Configuration.{timingOf}
+use Rattle.config.specs.Configuration.{timing_of}
 use Rattle.basics.proofs.Outcomes.{refused-value, require-value, given-value}
 use Rattle.rules.specs.Verdict.{Judgement, accepted, breach}
-use Rattle.consistency.specs.Consistency.{clockFits}
+use Rattle.consistency.specs.Consistency.{clock_fits}
 use Rattle.checker.specs.Steps.{step_of}
 use Rattle.checker.specs.declared.checker.Checker.{Checker}
-use Rattle.walks.specs.Walk.{passed, ended, progressOutcome, ofWord, atEnd}
+use Rattle.walks.specs.Walk.{passed, ended, progress_outcome, of_word, at_end}
 use Rattle.walks.specs.declared.Progress.{Progress}
 use Rattle.excluded.specs.Excluded.{NoMove, Walks}
 use Rattle.excluded.proofs.Answers.{same-progress}
-use Rattle.checker.proofs.Refinement.{cond-case}
-use Rattle.excluded.proofs.Examiners.{step-moves}
+use Rattle.checker.proofs.Refinement.{cond_case}
+use Rattle.excluded.proofs.Examiners.{step_moves}
 
 -- an examined word passes as the step has it, and never says end
-word-passed : (o : Outcome Judgement) → ofWord o ≡ value passed → o ≡ value accepted
+word-passed : (o : Outcome Judgement) → of_word o ≡ value passed → o ≡ value accepted
 word-passed (value accepted) e = refl
 word-passed (value (breach k n)) e = cc
 word-passed (refused n) e = cc
 
-word-ends : (o : Outcome Judgement) → ofWord o ≡ value ended → ⊥
+word-ends : (o : Outcome Judgement) → of_word o ≡ value ended → ⊥
 word-ends (value accepted) e = let z : ◌≡◌ {A = ℕ} 0 1 = cc in omega arith
 word-ends (value (breach k n)) e = let z : ◌≡◌ {A = ℕ} 0 1 = cc in omega arith
 word-ends (refused n) e = refused-value e
 
-end-passed : (s : Checker) → atEnd s ≡ value passed → ⊥
+end-passed : (s : Checker) → at_end s ≡ value passed → ⊥
 end-passed s e =
-    let g = given-value (timingOf s.config) _ e in
-    let q = (require-value (clockFits s.clock s.met s.stamps) _ _ g.2).1 in
+    let g = given-value (timing_of s.config) _ e in
+    let q = (require-value (clock_fits s.clock s.met s.stamps) _ _ g.2).1 in
     let z : ◌≡◌ {A = ℕ} 0 1 = cc q in
     omega arith
 
 -- no such answer at a word, by the step on it, and none where no word is left
 no_move : (s after : Checker) (ws : List ℕ) (p : Progress)
     → (s.clock < length ws → let r = step_of s (get_or ws s.clock 0) in
-    ofWord r.outcome ≡ progressOutcome p → after.clock ≡ r.after.clock → ⊥)
-    → (length ws ≤ s.clock → atEnd s ≡ progressOutcome p → after.clock ≡ s.clock → ⊥) → NoMove s ws p after
+    of_word r.outcome ≡ progress_outcome p → after.clock ≡ r.after.clock → ⊥)
+    → (length ws ≤ s.clock → at_end s ≡ progress_outcome p → after.clock ≡ s.clock → ⊥) → NoMove s ws p after
 no_move s after ws p word end =
-    cond-case (λ m. record { outcome = progressOutcome p; after = after } ≡ m → ⊥) (ltb s.clock (length ws)) _ _
+    cond_case (λ m. record { outcome = progress_outcome p; after = after } ≡ m → ⊥) (ltb s.clock (length ws)) _ _
     (λ l e. word (ltb-true _ _ l) (sym (ap (λ m. m.outcome) e)) (ap (λ m. m.after.clock) e))
     (λ l e. end (ltb-false _ _ l) (sym (ap (λ m. m.outcome) e)) (ap (λ m. m.after.clock) e))
 
@@ -56,7 +56,7 @@ walks =
           no_move s after ws Progress.End
           (λ _ e _. word-ends (step_of s (get_or ws s.clock 0)).outcome e)
           (λ l _ _. omega arith);
-      end-unsaid =
+      end_unsaid =
           λ s after ws t p h is fits other.
           no_move s after ws p
           (λ l _ _. omega arith)
@@ -64,12 +64,12 @@ walks =
       passed-place =
           λ s after ws h.
           no_move s after ws Progress.Passed
-          (λ _ o e. let w = get_or ws s.clock 0 in h (e ∙ (step-moves s w).passes (word-passed (step_of s w).outcome o)))
+          (λ _ o e. let w = get_or ws s.clock 0 in h (e ∙ (step_moves s w).passes (word-passed (step_of s w).outcome o)))
           (λ _ o _. end-passed s o);
       other_place =
           λ s after ws p other h.
           no_move s after ws p
           (λ _ o e. let w = get_or ws s.clock 0 in
-          h (e ∙ (step-moves s w).stays (λ q. other (same-progress p Progress.Passed (sym o ∙ ap ofWord q)))))
+          h (e ∙ (step_moves s w).stays (λ q. other (same-progress p Progress.Passed (sym o ∙ ap of_word q)))))
           (λ _ _ e. h e);
     }

@@ -4,11 +4,11 @@ use Rattle.command.specs.Pairs.{desl}
 use Rattle.basics.specs.Numbers.{limit}
 use Rattle.config.specs.Configuration.{institute}
 use Rattle.controller.specs.States.{fresh}
-use Rattle.controller.specs.Steps.{joined, tickOf}
+use Rattle.controller.specs.Steps.{joined, tick_of}
 use Rattle.controller.specs.declared.Controller.{Controller}
 use Rattle.controller.specs.declared.CallAnswer.{CallAnswer}
 use Rattle.controller.specs.declared.CallAnswer.TheVariants.{Accepted}
-use Rattle.model.specs.Traces.{bank0Read}
+use Rattle.model.specs.Traces.{bank0_read}
 use Rattle.model.specs.Runs.{Call, offer, tick}
 use Rattle.forms.specs.EitherForm.{Form, Promised}
 
@@ -24,7 +24,7 @@ begun = fresh institute
 -- one with sixteen waiting
 abbrev pub full : Controller
 full =
-    record { config = institute; clock = 0; opened = begun.opened; stamps = begun.stamps; waiting = replicate 16 bank0Read; count = 16 }
+    record { config = institute; clock = 0; opened = begun.opened; stamps = begun.stamps; waiting = replicate 16 bank0_read; count = 16 }
 
 -- one at the last clock
 abbrev pub last : Controller
@@ -33,18 +33,18 @@ last = record { config = institute; clock = limit; opened = begun.opened; stamps
 -- of each, whatever it answers, gives or leaves besides
 pub record Calls : Type 0 where
   -- an offer that leaves the controller as it was
-  pub offer-lost : (a : CallAnswer) → Never begun (offer bank0Read) a 0 begun
+  pub offer_lost : (a : CallAnswer) → Never begun (offer bank0_read) a 0 begun
   -- one that is made twice
-  pub offer-twice : (a : CallAnswer) → Never begun (offer bank0Read) a 0 (joined (joined begun bank0Read) bank0Read)
+  pub offer_twice : (a : CallAnswer) → Never begun (offer bank0_read) a 0 (joined (joined begun bank0_read) bank0_read)
   -- one that accepts a seventeenth request
-  pub offer-seventeenth : (after : Controller) → Never full (offer bank0Read) Accepted 0 after
+  pub offer_seventeenth : (after : Controller) → Never full (offer bank0_read) Accepted 0 after
   -- one that counts it
-  pub offer-refused-counted : (a : CallAnswer) → Never full (offer bank0Read) a 0 (joined full bank0Read)
+  pub offer-refused-counted : (a : CallAnswer) → Never full (offer bank0_read) a 0 (joined full bank0_read)
   -- a tick that leaves the controller as it was
   pub tick-stays : (a : CallAnswer) (word : ℕ) → Never begun tick a word begun
   -- one that is made twice
-  pub tick-twice : (a : CallAnswer) (word : ℕ) → Never begun tick a word (tickOf (tickOf begun).after).after
+  pub tick_twice : (a : CallAnswer) (word : ℕ) → Never begun tick a word (tick_of (tick_of begun).after).after
   -- one that is accepted past the last clock
-  pub tick-past-the-limit : (word : ℕ) (after : Controller) → Never last tick Accepted word after
+  pub tick-past_the_limit : (word : ℕ) (after : Controller) → Never last tick Accepted word after
   -- one that gives DESL there
   pub tick-refused-desl : (a : CallAnswer) (after : Controller) → Never last tick a desl after

@@ -27,9 +27,9 @@ breaching = 0 ∷ []
 -- of each, whatever it answers or leaves besides
 pub record Cursors : Type 0 where
   -- a fresh walk that starts at clock 1
-  pub new-at-clock-1 : (words : Bor (List ℕ)) (r : TraceCursor) → r.checker.clock ≡ 1 → NewPromised words institute r → ⊥
+  pub new_at-clock-1 : (words : Bor (List ℕ)) (r : TraceCursor) → r.checker.clock ≡ 1 → NewPromised words institute r → ⊥
   -- one that has no words
-  pub new-without-words : (words : Bor (List ℕ)) (r : TraceCursor) → words.now ≡ passing → r.words.now ≡ []
+  pub new_without-words : (words : Bor (List ℕ)) (r : TraceCursor) → words.now ≡ passing → r.words.now ≡ []
       → NewPromised words institute r → ⊥
   -- an advance that stays at a word that passes
   pub advance-stays : (p : Progress) → NoAdvance passing p (fresh institute)
@@ -38,5 +38,5 @@ pub record Cursors : Type 0 where
   -- one that goes past a breaching word
   pub advance-past-a-breach : (p : Progress) (after : Checker) → after.clock ≡ 1 → NoAdvance breaching p after
   -- one that gives the words of its walk up
-  pub advance-words-lost : (s after : TraceCursor) (p : Progress) → s.words.now ≡ passing → after.words.now ≡ []
+  pub advance-words_lost : (s after : TraceCursor) (p : Progress) → s.words.now ≡ passing → after.words.now ≡ []
       → AdvancePromised s p after → ⊥

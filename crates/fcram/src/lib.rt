@@ -2,9 +2,9 @@
 pub mod wired;
 
 ghost use Rattle.std.specs.Prelude.{◌≡◌};
-ghost use Rattle.rules.specs.Verdict.{checkBytesOf};
-ghost use Rattle.checker.specs.Steps.{verdictOutcome};
-ghost use Rattle.config.specs.Configuration.{configOf};
+ghost use Rattle.rules.specs.Verdict.{check_bytes_of};
+ghost use Rattle.checker.specs.Steps.{verdict_outcome};
+ghost use Rattle.config.specs.Configuration.{config_of};
 ghost use Rattle.fcram.specs.Number.{number_of};
 ghost use Rattle.fcram.specs.Range.{Small};
 
@@ -13,8 +13,8 @@ use config::Config;
 
 // A verdict as one number (RULES 10.1).
 fn number(verdict: Verdict) -> u32
-    requires { Small (verdictOutcome verdict) }
-    ensures { result ≡ number_of (verdictOutcome verdict) }
+    requires { Small (verdict_outcome verdict) }
+    ensures { result ≡ number_of (verdict_outcome verdict) }
 {
     match verdict {
         Verdict::Accepted => 0,
@@ -25,7 +25,7 @@ fn number(verdict: Verdict) -> u32
 
 // The verdict on a trace of little-endian words, as its number.
 pub(crate) fn checked(config: Config, trace: &[u8]) -> u32
-    ensures { result ≡ number_of (checkBytesOf config trace.now) }
+    ensures { result ≡ number_of (check_bytes_of config trace.now) }
 {
     number(bytecheck::check_bytes(config, trace))
 }
@@ -45,7 +45,7 @@ pub extern "C" fn fcram_check(
     refc: u32,
     trace: &[u8],
 ) -> u32
-    ensures { result ≡ number_of (checkBytesOf (configOf grade cl bl organisation period rbd rwd wrd rsc refc) trace.now) }
+    ensures { result ≡ number_of (check_bytes_of (config_of grade cl bl organisation period rbd rwd wrd rsc refc) trace.now) }
 {
     let config = Config::from_numbers(
         grade,

@@ -1,7 +1,7 @@
 // The exam site's call with the wiring.
 ghost use Rattle.std.specs.Prelude.{◌≡◌};
-ghost use Rattle.rules.specs.Verdict.{checkBytesOf};
-ghost use Rattle.config.specs.Configuration.{wiredOf};
+ghost use Rattle.rules.specs.Verdict.{check_bytes_of};
+ghost use Rattle.config.specs.Configuration.{wired_of};
 ghost use Rattle.fcram.specs.Number.{number_of};
 
 use crate::checked;
@@ -24,7 +24,7 @@ pub extern "C" fn fcram_check_wired(
     trace: &[u8],
 ) -> u32
     ensures { result ≡ number_of
-        (checkBytesOf (wiredOf grade cl bl organisation period rbd rwd wrd rsc refc wiring) trace.now) }
+        (check_bytes_of (wired_of grade cl bl organisation period rbd rwd wrd rsc refc wiring) trace.now) }
 {
     let config = Config::wired(
         grade,

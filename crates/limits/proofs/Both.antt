@@ -6,30 +6,30 @@ use mathlib.Core.List.{List}
 use lib.ListN.{length}
 use lib.Dec.{leb}
 use Rattle.basics.specs.Outcome.{Outcome, value, refused, require, given}
-use Rattle.config.specs.Configuration.{derived, timingOf}
+use Rattle.config.specs.Configuration.{derived, timing_of}
 use Rattle.config.specs.declared.Config.{Config}
-use Rattle.rules.specs.Verdict.{Judgement, accepted, breach, judge, checkOf}
-use Rattle.limits.specs.Limits.{alike, nowhereAbove, Finding, always, breachOn, shown, withinOf}
+use Rattle.rules.specs.Verdict.{Judgement, accepted, breach, judge, check_of}
+use Rattle.limits.specs.Limits.{alike, nowhere_above, Finding, always, breach_on, shown, within_of}
 
 -- the trace on one sheet
-abbrev pub foundOn : Config → List ℕ → Outcome Finding
-foundOn c words = given (checkOf c words) (λ j. value (shown c j always))
+abbrev pub found_on : Config → List ℕ → Outcome Finding
+found_on c words = given (check_of c words) (λ j. value (shown c j always))
 
 -- what a sheet comes to, and if that is accepted, what the next one does
-abbrev pub orNext : Outcome Finding → Outcome Finding → Outcome Finding
-orNext (value always) rest = rest
-orNext (value (breachOn c clock n)) rest = value (breachOn c clock n)
-orNext (refused n) rest = refused n
+abbrev pub or_next : Outcome Finding → Outcome Finding → Outcome Finding
+or_next (value always) rest = rest
+or_next (value (breach_on c clock n)) rest = value (breach_on c clock n)
+or_next (refused n) rest = refused n
 
 by_length : (b : Bool) (c d : Config) (i j : Judgement)
     → require b 24 (value (shown c i (shown d j always)))
-    ≡ orNext (given (require b 24 (value i)) (λ i. value (shown c i always)))
+    ≡ or_next (given (require b 24 (value i)) (λ i. value (shown c i always)))
     (given (require b 24 (value j)) (λ j. value (shown d j always)))
 by_length true c d accepted j = refl
 by_length true c d (breach clock n) j = refl
 by_length false c d i j = refl
 
-pub by_both : (a b : Config) (words : List ℕ) → (timingOf a ≡ value (derived a)) × (timingOf b ≡ value (derived b))
-    → (alike a b && nowhereAbove a b) ≡ true → withinOf a b words ≡ orNext (foundOn a words) (foundOn b words)
+pub by_both : (a b : Config) (words : List ℕ) → (timing_of a ≡ value (derived a)) × (timing_of b ≡ value (derived b))
+    → (alike a b && nowhere_above a b) ≡ true → within_of a b words ≡ or_next (found_on a words) (found_on b words)
 by_both a b words (p, q) e =
     rw (p, q, e) (by_length (leb (length words) 16777216) a b (judge (derived a) words) (judge (derived b) words))

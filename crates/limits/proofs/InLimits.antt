@@ -7,10 +7,10 @@ use native.Mathlib.Omega.{arith}
 use borrow.Author.Tests.{le-leb, le-ltb, ltb-false, not-true}
 use lib.Dec.{eqb, ltb}
 use Rattle.basics.specs.Outcome.{value}
-use Rattle.config.specs.Configuration.{within, leastPeriod, partFits, periodFits, countsFit, derived, timingOf}
+use Rattle.config.specs.Configuration.{within, least_period, part_fits, period_fits, counts_fit, derived, timing_of}
 use Rattle.config.specs.declared.Config.{Config}
 use Rattle.config.proofs.Accepted.{Accepted, accepted, timing-is}
-use Rattle.config.proofs.Bounds.{within-true, count-bounds}
+use Rattle.config.proofs.Bounds.{within-true, count_bounds}
 use Rattle.limits.specs.Within.{Ordered, InLimits}
 
 same : (a : Config) → Ordered a a
@@ -37,7 +37,7 @@ greatest a b o = record { from = o; to = same b }
 
 -- what is tested of these numbers alone
 part-alike : (a c : Config) → a.grade ≡ c.grade → a.cl ≡ c.cl → a.bl ≡ c.bl → a.organisation ≡ c.organisation
-    → partFits a ≡ true → partFits c ≡ true
+    → part_fits a ≡ true → part_fits c ≡ true
 part-alike a c grade cl bl organisation e = rw (← grade, ← cl, ← bl, ← organisation) e
 
 -- from low to high, where a smaller number is not below the one and a larger not above the other
@@ -45,16 +45,16 @@ between : (low high : ℕ) {x y z : ℕ} → low ≤ x → z ≤ high → x ≤ 
 between low high {x} {y} {z} p q l h = rw (le-leb low y (omega arith), le-leb y high (omega arith))
 
 period-between : (a b c : Config) → a.grade ≡ c.grade → a.cl ≡ c.cl → a.period.0 ≤ c.period.0 → c.period.0 ≤ b.period.0
-    → periodFits a ≡ true → periodFits b ≡ true → periodFits c ≡ true
+    → period_fits a ≡ true → period_fits b ≡ true → period_fits c ≡ true
 period-between a b c grade cl l h e f =
-    let x = within-true (leastPeriod a.grade a.cl) 8500 a.period.0 e in
-    let y = within-true (leastPeriod b.grade b.cl) 8500 b.period.0 f in
-    rw (← grade, ← cl) (between (leastPeriod a.grade a.cl) 8500 x.0 y.1 l h)
+    let x = within-true (least_period a.grade a.cl) 8500 a.period.0 e in
+    let y = within-true (least_period b.grade b.cl) 8500 b.period.0 f in
+    rw (← grade, ← cl) (between (least_period a.grade a.cl) 8500 x.0 y.1 l h)
 
 -- a larger REFC is not below 18 either
-no-shorter : (b : Bool) (m n : ℕ) → m ≤ n → not (b && ltb m 18) ≡ true → not (b && ltb n 18) ≡ true
-no-shorter false m n l e = refl
-no-shorter true m n l e =
+no_shorter : (b : Bool) (m n : ℕ) → m ≤ n → not (b && ltb m 18) ≡ true → not (b && ltb n 18) ≡ true
+no_shorter false m n l e = refl
+no_shorter true m n l e =
     let h = ltb-false m 18 (not-true _ e) in
     rw (le-ltb n 18 (omega arith))
 
@@ -65,10 +65,10 @@ module _ (a b c : Config) (p : Accepted a) (q : Accepted b) (i : InLimits a b c)
   abbrev t : Ordered c b
   t = i.to
 
-  counts : countsFit c ≡ true
+  counts : counts_fit c ≡ true
   counts =
-      let x = count-bounds a p.counts in
-      let y = count-bounds b q.counts in
+      let x = count_bounds a p.counts in
+      let y = count_bounds b q.counts in
       let rbd = between 2 7 x.rbd.0 y.rbd.1 f.rbd t.rbd in
       let rwd = between 1 7 x.rwd.0 y.rwd.1 f.rwd t.rwd in
       let wrd = between 1 7 x.wrd.0 y.wrd.1 f.wrd t.wrd in
@@ -83,9 +83,9 @@ module _ (a b c : Config) (p : Accepted a) (q : Accepted b) (i : InLimits a b c)
         wiring = rw (← f.wiring) p.wiring;
         period = period-between a b c f.grade f.cl f.period t.period p.period q.period;
         counts = counts;
-        refresh = rw (← f.cl) (no-shorter (eqb a.cl 4) a.refc.0 c.refc.0 f.refc p.refresh);
+        refresh = rw (← f.cl) (no_shorter (eqb a.cl 4) a.refc.0 c.refc.0 f.refc p.refresh);
       }
 
-pub in-limits-accepted : (a b c : Config) → timingOf a ≡ value (derived a) → timingOf b ≡ value (derived b) → InLimits a b c
-    → timingOf c ≡ value (derived c)
-in-limits-accepted a b c e h i = timing-is c (accepts a b c (accepted a _ e).0 (accepted b _ h).0 i)
+pub in_limits-accepted : (a b c : Config) → timing_of a ≡ value (derived a) → timing_of b ≡ value (derived b) → InLimits a b c
+    → timing_of c ≡ value (derived c)
+in_limits-accepted a b c e h i = timing-is c (accepts a b c (accepted a _ e).0 (accepted b _ h).0 i)

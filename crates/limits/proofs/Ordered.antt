@@ -4,12 +4,12 @@ use mathlib.Core.Bool.{true, ◌&&◌}
 use borrow.Author.Tests.{leb-true, eqb-true, le-leb, eq-eqb}
 use Rattle.config.specs.declared.Config.{Config}
 use Rattle.config.proofs.Bounds.{both}
-use Rattle.limits.specs.Limits.{alike, nowhereAbove}
+use Rattle.limits.specs.Limits.{alike, nowhere_above}
 use Rattle.limits.specs.Within.{Ordered}
 
-pub ordered : (a b : Config) → (alike a b && nowhereAbove a b) ≡ true → Ordered a b
+pub ordered : (a b : Config) → (alike a b && nowhere_above a b) ≡ true → Ordered a b
 ordered a b e =
-    let h = both (alike a b) (nowhereAbove a b) e in
+    let h = both (alike a b) (nowhere_above a b) e in
     let p₄ = both _ _ h.0 in
     let p₃ = both _ _ p₄.0 in
     let p₂ = both _ _ p₃.0 in
@@ -33,7 +33,7 @@ ordered a b e =
       refc = leb-true _ _ q₅.1;
     }
 
-pub fits : (a b : Config) → Ordered a b → (alike a b && nowhereAbove a b) ≡ true
+pub fits : (a b : Config) → Ordered a b → (alike a b && nowhere_above a b) ≡ true
 fits a b o =
     rw
     (eq-eqb _ _ o.grade, eq-eqb _ _ o.cl, eq-eqb _ _ o.bl, eq-eqb _ _ o.organisation, eq-eqb _ _ o.wiring)

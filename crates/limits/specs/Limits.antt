@@ -2,7 +2,7 @@
 use Rattle.std.specs.Prelude.{ℕ, Bool, ◌&&◌, List, length, eqb, leb}
 use Rattle.basics.specs.Numbers.{limit}
 use Rattle.basics.specs.Outcome.{Outcome, value, require, given}
-use Rattle.config.specs.Configuration.{timingOf}
+use Rattle.config.specs.Configuration.{timing_of}
 use Rattle.config.specs.declared.Config.{Config}
 use Rattle.rules.specs.Verdict.{Judgement, accepted, breach, judge}
 
@@ -16,8 +16,8 @@ alike a b =
     && eqb a.wiring b.wiring
 
 -- the first is above the second neither in the period nor in one of the five counts
-abbrev pub nowhereAbove : Config → Config → Bool
-nowhereAbove a b =
+abbrev pub nowhere_above : Config → Config → Bool
+nowhere_above a b =
     leb a.period.0 b.period.0
     && leb a.rbd.0 b.rbd.0
     && leb a.rwd.0 b.rwd.0
@@ -28,18 +28,18 @@ nowhereAbove a b =
 -- accepted on every sheet in the limits, or a sheet there with the clock and the number of the breach on it
 pub data Finding : Type 0 where
   always : Finding
-  breachOn : Config → ℕ → ℕ → Finding
+  breach_on : Config → ℕ → ℕ → Finding
 
 -- a sheet is shown if its verdict is a breach; otherwise what the rest comes to
 abbrev pub shown : Config → Judgement → Finding → Finding
 shown c accepted rest = rest
-shown c (breach clock n) rest = breachOn c clock n
+shown c (breach clock n) rest = breach_on c clock n
 
 -- what the call comes to: the first sheet's refusals, the second's, 35 and 24, in this order (RULES 7.1); otherwise the
 -- first of the two on which the words are in breach. They decide for all between them (Within)
-abbrev pub withinOf : Config → Config → List ℕ → Outcome Finding
-withinOf a b words =
-    given (timingOf a)
-    (λ s. given (timingOf b)
-    (λ t. require (alike a b && nowhereAbove a b) 35
+abbrev pub within_of : Config → Config → List ℕ → Outcome Finding
+within_of a b words =
+    given (timing_of a)
+    (λ s. given (timing_of b)
+    (λ t. require (alike a b && nowhere_above a b) 35
     (require (leb (length words) limit) 24 (value (shown a (judge s words) (shown b (judge t words) always))))))

@@ -1,9 +1,9 @@
 // Sheets known within limits: a trace on every sheet from a least one to a greatest.
 ghost use Rattle.std.specs.Prelude.{◌≡◌};
 ghost use Rattle.basics.specs.Outcome.{value, given};
-ghost use Rattle.config.specs.Configuration.{derived, timingOf};
-ghost use Rattle.rules.specs.Verdict.{checkOf};
-ghost use Rattle.limits.specs.Limits.{alike, nowhereAbove, always, shown, withinOf};
+ghost use Rattle.config.specs.Configuration.{derived, timing_of};
+ghost use Rattle.rules.specs.Verdict.{check_of};
+ghost use Rattle.limits.specs.Limits.{alike, nowhere_above, always, shown, within_of};
 ghost use Rattle.limits.specs.Answers.{findingOutcome};
 
 use basics::Refusal;
@@ -30,7 +30,7 @@ fn alike(least: Config, greatest: Config) -> bool
 }
 
 fn nowhere_above(least: Config, greatest: Config) -> bool
-    ensures { result ≡ nowhereAbove least greatest }
+    ensures { result ≡ nowhere_above least greatest }
 {
     (least.period.0 <= greatest.period.0)
         & (least.rbd.0 <= greatest.rbd.0)
@@ -42,7 +42,7 @@ fn nowhere_above(least: Config, greatest: Config) -> bool
 
 // The trace on one sheet.
 fn on_sheet(config: Config, words: &[u32]) -> LimitsAnswer
-    ensures { findingOutcome result ≡ given (checkOf config words.now) (λ j. value (shown config j always)) }
+    ensures { findingOutcome result ≡ given (check_of config words.now) (λ j. value (shown config j always)) }
 {
     match check(config, words) {
         Verdict::Accepted => LimitsAnswer::Always,
@@ -53,8 +53,8 @@ fn on_sheet(config: Config, words: &[u32]) -> LimitsAnswer
 
 // The trace on the one sheet, and where it is accepted there, on the other. These two decide for all between them.
 fn on_both(least: Config, greatest: Config, words: &[u32]) -> LimitsAnswer
-    requires { (timingOf least ≡ value (derived least)) × (timingOf greatest ≡ value (derived greatest)) }
-    ensures { findingOutcome result ≡ withinOf least greatest words.now }
+    requires { (timing_of least ≡ value (derived least)) × (timing_of greatest ≡ value (derived greatest)) }
+    ensures { findingOutcome result ≡ within_of least greatest words.now }
 {
     if alike(least, greatest) & nowhere_above(least, greatest) {
         match on_sheet(least, words) {
@@ -69,7 +69,7 @@ fn on_both(least: Config, greatest: Config, words: &[u32]) -> LimitsAnswer
 
 // Whether the trace is accepted on every sheet in the limits. Refuses by the first sheet's numbers, the second's, 35 and 24, in this order.
 pub fn check_within(least: Config, greatest: Config, words: &[u32]) -> LimitsAnswer
-    ensures { findingOutcome result ≡ withinOf least greatest words.now }
+    ensures { findingOutcome result ≡ within_of least greatest words.now }
 {
     match least.timing() {
         TimingAnswer::Refused(why) => LimitsAnswer::Refused(why),

@@ -10,13 +10,13 @@ use lib.Seq.{drop-cons}
 use lib.Dec.{leb}
 use Rattle.line.specs.declared.Line.{Line}
 use Rattle.line.specs.Lines.{appended}
-use Rattle.line.specs.Text.{digitsBy, powers, decimal}
+use Rattle.line.specs.Text.{digits_by, powers, decimal}
 use Rattle.line.proofs.Appended.{joined}
 
 -- a line with the digit of the i-th power, and then with the digits of the later ones
 pub one_more : (l : Line) (n i : ℕ) → i < 9
-    → appended (appended l (cond (leb (get_or powers i 0) n) ((48 + n / get_or powers i 0 % 10) ∷ []) [])) (digitsBy (drop (i + 1) powers) n)
-    ≡ appended l (digitsBy (drop i powers) n)
+    → appended (appended l (cond (leb (get_or powers i 0) n) ((48 + n / get_or powers i 0 % 10) ∷ []) [])) (digits_by (drop (i + 1) powers) n)
+    ≡ appended l (digits_by (drop i powers) n)
 one_more l n i h = rw (joined, add-one, drop-cons powers i 0 h)
 
 -- no number of a list is 0
@@ -34,9 +34,9 @@ shown : (test : Bool) (d : ℕ) (ds : List ℕ) → length (cond test (d ∷ [])
 shown true d ds = omega arith
 shown false d ds = omega arith
 
-few : (ps : List ℕ) (n : ℕ) → length (digitsBy ps n) ≤ length ps + 1
+few : (ps : List ℕ) (n : ℕ) → length (digits_by ps n) ≤ length ps + 1
 few [] n = omega arith
-few (p ∷ ps) n = omega (arith, shown (leb p n) (48 + n / p % 10) (digitsBy ps n), few ps n)
+few (p ∷ ps) n = omega (arith, shown (leb p n) (48 + n / p % 10) (digits_by ps n), few ps n)
 
 pub decimal-length : (n : ℕ) → length (decimal n) ≤ 10
 decimal-length = few powers

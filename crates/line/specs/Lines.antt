@@ -3,8 +3,8 @@ use Rattle.std.specs.Prelude.{ℕ, ◌+◌, cond, List, [], ◌∷◌, set, repl
 use Rattle.line.specs.declared.Line.{Line}
 
 -- a line without text
-abbrev pub emptyLine : Line
-emptyLine = record { bytes = replicate 40 0; len = 0 }
+abbrev pub empty_line : Line
+empty_line = record { bytes = replicate 40 0; len = 0 }
 
 -- a line with one byte more, or the same line where it is full: its length is 40 or more
 abbrev pub pushed : Line → ℕ → Line

@@ -7,9 +7,9 @@ abbrev pub text : Line → List ℕ
 text l = take l.len l.bytes
 
 -- a number's digits from the first of these powers of ten on, the highest first, with no zero in front
-abbrev pub digitsBy : List ℕ → ℕ → List ℕ
-digitsBy [] n = (48 + n % 10) ∷ []
-digitsBy (p ∷ ps) n = cond (leb p n) ((48 + n / p % 10) ∷ []) [] ++ digitsBy ps n
+abbrev pub digits_by : List ℕ → ℕ → List ℕ
+digits_by [] n = (48 + n % 10) ∷ []
+digits_by (p ∷ ps) n = cond (leb p n) ((48 + n / p % 10) ∷ []) [] ++ digits_by ps n
 
 -- the powers of ten that a number of 32 bits can have digits for, but the last
 abbrev pub powers : List ℕ
@@ -17,4 +17,4 @@ powers = 1000000000 ∷ 100000000 ∷ 10000000 ∷ 1000000 ∷ 100000 ∷ 10000 
 
 -- a number of 32 bits in decimal
 abbrev pub decimal : ℕ → List ℕ
-decimal n = digitsBy powers n
+decimal n = digits_by powers n

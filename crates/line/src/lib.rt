@@ -1,6 +1,6 @@
 // A line of text that grows at its end. What no longer fits is left out.
 ghost use Rattle.std.specs.Prelude.{◌≡◌, cond, [], ◌∷◌, ◌+◌, ◌<◌};
-ghost use Rattle.line.specs.Lines.{emptyLine, pushed, appended};
+ghost use Rattle.line.specs.Lines.{empty_line, pushed, appended};
 ghost use Rattle.line.specs.Text.{decimal};
 
 // Room for 40 bytes; the text is the first `len` of them.
@@ -18,7 +18,7 @@ const POWERS: [u32; 9] = [
 impl Line {
     // A line without text.
     pub fn empty() -> Line
-        ensures { result ≡ emptyLine }
+        ensures { result ≡ empty_line }
     {
         Line {
             bytes: [0; 40],

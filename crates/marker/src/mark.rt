@@ -3,8 +3,8 @@ ghost use Rattle.std.specs.Prelude.{◌≡◌, ◌≤◌};
 ghost use Rattle.line.specs.Text.{text};
 ghost use Rattle.basics.specs.Outcome.{value, refused};
 ghost use Rattle.rules.specs.Verdict.{accepted, breach};
-ghost use Rattle.checker.specs.Steps.{verdictOutcome};
-ghost use Rattle.marker.specs.Mark.{lineBy, line_of};
+ghost use Rattle.checker.specs.Steps.{verdict_outcome};
+ghost use Rattle.marker.specs.Mark.{line_by, line_of};
 
 use basics::Refusal;
 use checker::Verdict;
@@ -12,13 +12,13 @@ use config::Config;
 use line::Line;
 
 fn accepted(count: u32) -> Line
-    ensures { (text result ≡ lineBy count (value accepted)) × (result.len ≤ 40) }
+    ensures { (text result ≡ line_by count (value accepted)) × (result.len ≤ 40) }
 {
     Line::empty().piece(b"accepted ").number(count).push(10)
 }
 
 fn in_breach(clock: u32, number: u32) -> Line
-    ensures { (text result ≡ lineBy 0 (value (breach clock number))) × (result.len ≤ 40) }
+    ensures { (text result ≡ line_by 0 (value (breach clock number))) × (result.len ≤ 40) }
 {
     Line::empty()
         .piece(b"breach ")
@@ -29,14 +29,14 @@ fn in_breach(clock: u32, number: u32) -> Line
 }
 
 fn refused(why: u32) -> Line
-    ensures { (text result ≡ lineBy 0 (refused why)) × (result.len ≤ 40) }
+    ensures { (text result ≡ line_by 0 (refused why)) × (result.len ≤ 40) }
 {
     Line::empty().piece(b"refused ").number(why).push(10)
 }
 
 // The line for a verdict on so many words.
 fn line_by(count: u32, verdict: Verdict) -> Line
-    ensures { (text result ≡ lineBy count (verdictOutcome verdict)) × (result.len ≤ 40) }
+    ensures { (text result ≡ line_by count (verdict_outcome verdict)) × (result.len ≤ 40) }
 {
     match verdict {
         Verdict::Accepted => accepted(count),

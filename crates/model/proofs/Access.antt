@@ -11,45 +11,45 @@ use borrow.Author.Tests.{ne_eqb, le-ltb}
 use lib.ListN.{get_or}
 use lib.Dec.{eqb}
 use Rattle.config.specs.declared.Timing.{Timing}
-use Rattle.writing.specs.Writing.{pair_of, requestFits}
+use Rattle.writing.specs.Writing.{pair_of, request_fits}
 use Rattle.command.specs.declared.operation.Request.{Request}
 use Rattle.command.specs.declared.operation.Operation.TheVariants.{Access}
 use Rattle.roundtrip.proofs.WrittenBack.{written_back}
 use Rattle.rules.specs.History.{ClosedPair, pair, free}
-use Rattle.command.specs.Address.{bankOf}
-use Rattle.rules.specs.Rules.{closings, wasRead, wasWrite, wasRegular, wasRefresh}
-use Rattle.rules.specs.Breaches.{notReady}
-use Rattle.rules.proofs.Newest.{Ordered, latest, latest-cons}
-use Rattle.rules.proofs.Summary.{summary, ofBank, get-bank, bank-bound}
+use Rattle.command.specs.Address.{bank_of}
+use Rattle.rules.specs.Rules.{closings, was_read, was_write, was_regular, was_refresh}
+use Rattle.rules.specs.Breaches.{not_ready}
+use Rattle.rules.proofs.Newest.{Ordered, latest, latest_cons}
+use Rattle.rules.proofs.Summary.{summary, of_bank, get_bank, bank-bound}
 use Rattle.rules.proofs.Tests.{closing-bound}
-use Rattle.rules.proofs.Words.{ordered-mono, breach-is}
+use Rattle.rules.proofs.Words.{ordered_mono, breach-is}
 use Rattle.model.specs.Laid.{breachless}
 use Rattle.model.proofs.Figures.{Figures}
 use Rattle.roundtrip.proofs.SoundPair.{sound-tests}
 use Rattle.model.proofs.Spacings.{AccessFree, sound-first, access-closes}
-use Rattle.model.proofs.InTime.{lastRef, Normal, in-time}
-use Rattle.model.proofs.Turn.{idle, closes-with-lal}
+use Rattle.model.proofs.InTime.{last_ref, Normal, in_time}
+use Rattle.model.proofs.Turn.{idle, closes_with_lal}
 
 -- the last access of a bank is no later than the last read or the last write
 bank-latest : (four : Bool) (b k : ℕ) (ps : List ClosedPair) → Ordered k ps
-    → (latest (ofBank four b) ps ≤ latest wasRead ps) ⊎ (latest (ofBank four b) ps ≤ latest wasWrite ps)
+    → (latest (of_bank four b) ps ≤ latest was_read ps) ⊎ (latest (of_bank four b) ps ≤ latest was_write ps)
 bank-latest four b k [] o = inl (le_refl 0)
 bank-latest four b k (p ∷ ps) o =
-    rw (latest-cons (ofBank four b) p ps, latest-cons wasRead p ps, latest-cons wasWrite p ps)
-    (go (wasRead p) (wasWrite p) (eqb (bankOf four p.first) b) (bank-latest four b p.start ps o.1))
+    rw (latest_cons (of_bank four b) p ps, latest_cons was_read p ps, latest_cons was_write p ps)
+    (go (was_read p) (was_write p) (eqb (bank_of four p.first) b) (bank-latest four b p.start ps o.1))
   where
-    bound : latest (ofBank four b) ps ≤ p.start
-    bound = closing-bound (ofBank four b) p.start ps o.1 0
+    bound : latest (of_bank four b) ps ≤ p.start
+    bound = closing-bound (of_bank four b) p.start ps o.1 0
 
-    upto : (x : Bool) → cond x (p.start + 1) (latest (ofBank four b) ps) ≤ p.start + 1
+    upto : (x : Bool) → cond x (p.start + 1) (latest (of_bank four b) ps) ≤ p.start + 1
     upto true = le_refl (p.start + 1)
     upto false =
         let h = bound in
         omega arith
 
-    go : (r w q : Bool) → (latest (ofBank four b) ps ≤ latest wasRead ps) ⊎ (latest (ofBank four b) ps ≤ latest wasWrite ps)
-        → (cond ((r || w) && q) (p.start + 1) (latest (ofBank four b) ps) ≤ cond r (p.start + 1) (latest wasRead ps))
-        ⊎ (cond ((r || w) && q) (p.start + 1) (latest (ofBank four b) ps) ≤ cond w (p.start + 1) (latest wasWrite ps))
+    go : (r w q : Bool) → (latest (of_bank four b) ps ≤ latest was_read ps) ⊎ (latest (of_bank four b) ps ≤ latest was_write ps)
+        → (cond ((r || w) && q) (p.start + 1) (latest (of_bank four b) ps) ≤ cond r (p.start + 1) (latest was_read ps))
+        ⊎ (cond ((r || w) && q) (p.start + 1) (latest (of_bank four b) ps) ≤ cond w (p.start + 1) (latest was_write ps))
     go true w q older = inl (upto q)
     go false true q older = inr (upto q)
     go false false q older = older
@@ -58,23 +58,23 @@ module _ (t : Timing) (f : Figures t) (ps : List ClosedPair) (k : ℕ) (n : Norm
   -- every spacing has run out for a read or write at k
   pub record Clear : Type 0 where
     pub ready : 201 ≤ k
-    pub read : latest wasRead ps + t.spacing ≤ k + 1
-    pub write : latest wasWrite ps + t.spacing ≤ k + 1
-    pub refresh : lastRef ps + t.refc ≤ k + 1
+    pub read : latest was_read ps + t.spacing ≤ k + 1
+    pub write : latest was_write ps + t.spacing ≤ k + 1
+    pub refresh : last_ref ps + t.refc ≤ k + 1
 
   is-ready : 201 ≤ k
-      → notReady (summary t.four ps).extended (summary t.four ps).regular (get_or (summary t.four ps).refs 1 0) (k + 1) ≡ false
+      → not_ready (summary t.four ps).extended (summary t.four ps).regular (get_or (summary t.four ps).refs 1 0) (k + 1) ≡ false
   is-ready h =
       let g = n.ready.regular in
       let s = n.ready.second in
       rw (
         n.ready.extended,
-        ne_eqb (latest wasRegular ps) 0 (λ e. omega arith),
-        ne_eqb (get_or (closings wasRefresh ps) 1 0) 0 (λ e. omega arith),
+        ne_eqb (latest was_regular ps) 0 (λ e. omega arith),
+        ne_eqb (get_or (closings was_refresh ps) 1 0) 0 (λ e. omega arith),
         le-ltb (k + 1) (1 + 201) (omega arith),
       )
 
-  module _ (r : Request) (fits : requestFits t r ≡ true) where
+  module _ (r : Request) (fits : request_fits t r ≡ true) where
     abbrev first : ℕ
     first = (pair_of t (Access r)).first
 
@@ -87,18 +87,18 @@ module _ (t : Timing) (f : Figures t) (ps : List ClosedPair) (k : ℕ) (n : Norm
         let read = c.read in
         let write = c.write in
         let rc = f.same-bank in
-        let rbd = f.any-bank in
+        let rbd = f.any_bank in
         let rwd = f.read-write in
         let wrd = f.write_read in
         let ready = c.ready in
         let mode = n.mode in
         record {
           sound = w.0;
-          lal = closes-with-lal t f (Access r) fits;
+          lal = closes_with_lal t f (Access r) fits;
           ready = is-ready ready;
           bank =
-              rw (get-bank (λ b. latest (ofBank t.four b) ps) (bankOf t.four first) (bank-bound t.four first))
-              (inr (⊎_elim (λ h. omega arith) (λ h. omega arith) (bank-latest t.four (bankOf t.four first) k ps n.ordered)));
+              rw (get_bank (λ b. latest (of_bank t.four b) ps) (bank_of t.four first) (bank-bound t.four first))
+              (inr (⊎_elim (λ h. omega arith) (λ h. omega arith) (bank-latest t.four (bank_of t.four first) k ps n.ordered)));
           read = inr (omega arith);
           write = inr (omega arith);
           turn-write = inr (omega arith);
@@ -111,12 +111,12 @@ module _ (t : Timing) (f : Figures t) (ps : List ClosedPair) (k : ℕ) (n : Norm
     access-opens c =
         let a = access-free c in
         let w = sound-tests t first second a.sound in
-        let before = ordered-mono k (k + 1 - 1) (omega arith) ps n.ordered in
+        let before = ordered_mono k (k + 1 - 1) (omega arith) ps n.ordered in
         rw (
           breach-is t free k ps first (omega arith, n.ordered),
-          sound-first t (summary t.four ps) k first second (in-time t f ps k n k (omega arith)) a.sound,
+          sound-first t (summary t.four ps) k first second (in_time t f ps k n k (omega arith)) a.sound,
           w.pd₁,
           w.cs,
           breach-is t (pair first) (k + 1) ps second (omega arith, before, rw w.cs),
-          access-closes t (summary t.four ps) (k + 1) first second (in-time t f ps k n (k + 1) (le_refl (k + 1))) a,
+          access-closes t (summary t.four ps) (k + 1) first second (in_time t f ps k n (k + 1) (le_refl (k + 1))) a,
         )

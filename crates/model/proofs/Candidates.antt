@@ -9,26 +9,26 @@ use lib.Dec.{leb}
 use Rattle.config.specs.declared.Timing.{Timing}
 use Rattle.command.specs.Pins.{high}
 use Rattle.command.specs.Pairs.{selected}
-use Rattle.writing.specs.Writing.{pair_of, operationFits, requestFits}
+use Rattle.writing.specs.Writing.{pair_of, operation_fits, request_fits}
 use Rattle.command.specs.declared.operation.Request.{Request}
 use Rattle.command.specs.declared.operation.Operation.{Operation}
 use Rattle.command.specs.declared.operation.Operation.TheVariants.{Access, Regular, Extended, Refresh}
 use Rattle.roundtrip.proofs.SoundPair.{sound-tests}
 use Rattle.roundtrip.proofs.WrittenBack.{written_back}
 use Rattle.rules.specs.History.{Past}
-use Rattle.rules.specs.Rules.{closings, wasExtended, wasRegular, wasRefresh}
-use Rattle.model.specs.Laid.{entry_at, firstOfTwo, startUp, refreshDue, asked, candidate}
+use Rattle.rules.specs.Rules.{closings, was_extended, was_regular, was_refresh}
+use Rattle.model.specs.Laid.{entry_at, first_of_two, start_up, refresh_due, asked, candidate}
 use Rattle.model.proofs.Figures.{Figures}
 
 -- every waiting request is in range
 abbrev pub AllFit : Timing → List Request → Type 0
 AllFit t [] = Unit {0}
-AllFit t (r ∷ rs) = (requestFits t r ≡ true) × AllFit t rs
+AllFit t (r ∷ rs) = (request_fits t r ≡ true) × AllFit t rs
 
 -- the chosen request is in range
 abbrev pub FitIf : Timing → Option Request → Type 0
 FitIf t none = Unit {0}
-FitIf t (some r) = requestFits t r ≡ true
+FitIf t (some r) = request_fits t r ≡ true
 
 -- where all that wait are in range, the one at any place is
 pub entry-fits : (t : Timing) (p : ℕ) (rs : List Request) → AllFit t rs → FitIf t (entry_at p rs)
@@ -46,18 +46,18 @@ OfChosen x Refresh = Unit {0}
 -- in range; and where it is a read or write, that of the chosen request
 abbrev pub Due : Timing → Option Request → Option Operation → Type 0
 Due t x none = Unit {0}
-Due t x (some o) = (operationFits t o ≡ true) × OfChosen x o
+Due t x (some o) = (operation_fits t o ≡ true) × OfChosen x o
 
-or-else-due : (t : Timing) (x : Option Request) (a b : Option Operation) → Due t x a → Due t x b → Due t x (firstOfTwo a b)
-or-else-due t x none b f g = g
-or-else-due t x (some o) b f g = f
+or_else_due : (t : Timing) (x : Option Request) (a b : Option Operation) → Due t x a → Due t x b → Due t x (first_of_two a b)
+or_else_due t x none b f g = g
+or_else_due t x (some o) b f g = f
 
-start-up-due : (t : Timing) (x : Option Request) (extended regular refreshed : Bool)
+start_up_due : (t : Timing) (x : Option Request) (extended regular refreshed : Bool)
     → Due t x (cond extended (cond regular (cond refreshed none (some Refresh)) (some (Regular false))) (some (Extended 0)))
-start-up-due t x false b d = (refl, tt)
-start-up-due t x true false d = (refl, tt)
-start-up-due t x true true false = (refl, tt)
-start-up-due t x true true true = tt
+start_up_due t x false b d = (refl, tt)
+start_up_due t x true false d = (refl, tt)
+start_up_due t x true true false = (refl, tt)
+start_up_due t x true true true = tt
 
 asked-due : (t : Timing) (x : Option Request) → FitIf t x → Due t x (asked x)
 asked-due t none f = tt
@@ -71,15 +71,15 @@ refresh-due t x false o f = f
 pub candidate-due : (t : Timing) (p : Past) (x : Option Request) → FitIf t x → Due t x (candidate t p x)
 candidate-due t p x f =
     let ps = p.pairs in
-    or-else-due t x (startUp ps) (cond (refreshDue t p) (some Refresh) (asked x))
-    (start-up-due t x (leb 1 (length (closings wasExtended ps))) (leb 1 (length (closings wasRegular ps)))
-    (leb 2 (length (closings wasRefresh ps))))
-    (refresh-due t x (refreshDue t p) (asked x) (asked-due t x f))
+    or_else_due t x (start_up ps) (cond (refresh_due t p) (some Refresh) (asked x))
+    (start_up_due t x (leb 1 (length (closings was_extended ps))) (leb 1 (length (closings was_regular ps)))
+    (leb 2 (length (closings was_refresh ps))))
+    (refresh-due t x (refresh_due t p) (asked x) (asked-due t x f))
 
 -- the first word of an operation in range has PD high, and opens a pair
-pub fits-open : (t : Timing) (f : Figures t) (o : Operation) → operationFits t o ≡ true
+pub fits_open : (t : Timing) (f : Figures t) (o : Operation) → operation_fits t o ≡ true
     → (high 19 (pair_of t o).first ≡ true) × (selected (pair_of t o).first ≡ true)
-fits-open t f o h =
+fits_open t f o h =
     let w = pair_of t o in
     let sound = sound-tests t w.first w.second (written_back t f.bl f.cl o h).0 in
     (sound.pd₁, rw sound.cs)

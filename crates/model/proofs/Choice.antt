@@ -9,7 +9,7 @@ use native.Mathlib.Omega.{arith}
 use native.Mathlib.Nat.{le_refl}
 use lib.ListN.{length}
 use Rattle.config.specs.declared.Timing.{Timing}
-use Rattle.writing.specs.Writing.{pair_of, requestFits, operationFits}
+use Rattle.writing.specs.Writing.{pair_of, request_fits, operation_fits}
 use Rattle.command.specs.declared.operation.Request.{Request}
 use Rattle.command.specs.declared.operation.Operation.{Operation}
 use Rattle.command.specs.declared.operation.Operation.TheVariants.{Access, Regular, Extended, Refresh}
@@ -17,42 +17,42 @@ use Rattle.rules.specs.History.{ClosedPair, Past}
 use Rattle.queue.specs.Place.{without}
 use Rattle.queue.specs.Queue.{all_fit}
 use Rattle.model.specs.Laid.{entry_at, Course, breachless, leave}
-use Rattle.rules.specs.Turns.{requestOf, startsOf}
+use Rattle.rules.specs.Turns.{request_of, starts_of}
 use Rattle.model.proofs.Candidates.{AllFit, OfChosen}
 use Rattle.model.proofs.Places.{only, Foremost, entry_more, without_more, without-length}
 use Rattle.model.proofs.Prompt.{Awaited, requests, lower, Spare}
 use Rattle.model.proofs.Turn.{pair_at}
 
 -- an operation is a request of a kind
-abbrev pub ofKind : (Request → Bool) → Operation → Bool
-ofKind g (Access r) = g r
-ofKind g (Regular a3) = false
-ofKind g (Extended v) = false
-ofKind g Refresh = false
+abbrev pub of_kind : (Request → Bool) → Operation → Bool
+of_kind g (Access r) = g r
+of_kind g (Regular a3) = false
+of_kind g (Extended v) = false
+of_kind g Refresh = false
 
 -- a kind of requests, and the closed pairs that are of it by their pins
 pub record Kind (t : Timing) : Type 0 where
   pub of : Request → Bool
   pub was : ClosedPair → Bool
-  pub same : (u : ℕ) (o : Operation) → operationFits t o ≡ true → was (pair_at t u o) ≡ ofKind of o
+  pub same : (u : ℕ) (o : Operation) → operation_fits t o ≡ true → was (pair_at t u o) ≡ of_kind of o
 
 -- the first word of a pair of the kind that is open at clock k
-abbrev pub openStart : (Request → Bool) → Option Operation → ℕ → List ℕ
-openStart g none k = []
-openStart g (some o) k = cond (ofKind g o) ((k - 1) ∷ []) []
+abbrev pub open_start : (Request → Bool) → Option Operation → ℕ → List ℕ
+open_start g none k = []
+open_start g (some o) k = cond (of_kind g o) ((k - 1) ∷ []) []
 
 -- the first words of the pairs of the kind, an open one behind the closed ones
-abbrev pub firstsOf : (t : Timing) → Kind t → Course → List ℕ
-firstsOf t g c = startsOf g.was c.past.pairs ++ openStart g.of c.opened c.past.clock
+abbrev pub firsts_of : (t : Timing) → Kind t → Course → List ℕ
+firsts_of t g c = starts_of g.was c.past.pairs ++ open_start g.of c.opened c.past.clock
 
 -- the pair of a request breaches nothing, if there is one
-abbrev pub mayOpen : Timing → Past → Option Request → Bool
-mayOpen t p none = false
-mayOpen t p (some r) = breachless t p (pair_of t (Access r))
+abbrev pub may_open : Timing → Past → Option Request → Bool
+may_open t p none = false
+may_open t p (some r) = breachless t p (pair_of t (Access r))
 
 -- where the oldest may open, the chosen one may
 abbrev pub Willing : Timing → Past → List Request → ℕ → Type 0
-Willing t p rs i = mayOpen t p (entry_at 0 rs) ≡ true → mayOpen t p (entry_at i rs) ≡ true
+Willing t p rs i = may_open t p (entry_at 0 rs) ≡ true → may_open t p (entry_at i rs) ≡ true
 
 -- where one is chosen, every other has rank to lose
 abbrev pub Fair : List Awaited → ℕ → Type 0
@@ -84,7 +84,7 @@ OpenAt o i rs = OfChosen (entry_at i rs) o
 
 -- of the kind it is ahead of those that stay when it leaves
 abbrev pub Ahead : (Request → Bool) → Operation → ℕ → List Request → Type 0
-Ahead g o i rs = only g (requestOf o) ++ only g (leave o i rs) ≡ only g rs
+Ahead g o i rs = only g (request_of o) ++ only g (leave o i rs) ≡ only g rs
 
 -- more requests behind change neither what is open nor who leaves
 pub open_more : (o : Operation) (i : ℕ) (rs ss : List Request) → OpenAt o i rs → OpenAt o i (rs ++ ss)
@@ -115,13 +115,13 @@ all-fit t [] a = refl
 all-fit t (r ∷ rs) a = rw (a.0, all-fit t rs a.1)
 
 -- all fit, if the one whose pair is open does and the others do
-pub fit-back : (t : Timing) (o : Operation) (i : ℕ) (rs : List Request) → OpenAt o i rs → operationFits t o ≡ true → AllFit t (leave o i rs)
+pub fit-back : (t : Timing) (o : Operation) (i : ℕ) (rs : List Request) → OpenAt o i rs → operation_fits t o ≡ true → AllFit t (leave o i rs)
     → AllFit t rs
 fit-back t (Access r) i rs at h a = go i rs at a
   where
     go : (i : ℕ) (rs : List Request) → entry_at i rs ≡ some r → AllFit t (without i rs) → AllFit t rs
     go i [] e a = tt
-    go zero (q ∷ rs) e a = (subst⁻¹ (λ q. requestFits t q ≡ true) (some-injective q r e) h, a)
+    go zero (q ∷ rs) e a = (subst⁻¹ (λ q. request_fits t q ≡ true) (some-injective q r e) h, a)
     go (suc i) (q ∷ rs) e a = (a.0, go i rs e a.1)
 fit-back t (Regular a3) i rs at h a = a
 fit-back t (Extended v) i rs at h a = a

@@ -11,9 +11,9 @@ use Rattle.config.specs.declared.Timing.{Timing}
 use Rattle.command.specs.declared.operation.Request.{Request}
 use Rattle.rules.specs.History.{ClosedPair}
 use Rattle.model.proofs.Places.{only}
-use Rattle.model.proofs.InTime.{lastRef}
+use Rattle.model.proofs.InTime.{last_ref}
 use Rattle.model.proofs.Prompt.{Awaited, Prompt, due-by}
-use Rattle.model.proofs.Soonest.{soonest, soonest-pace}
+use Rattle.model.proofs.Soonest.{soonest, soonest_pace}
 use Rattle.model.proofs.Punctual.{Queue}
 
 -- of the bounds all, the first ones are met by first words at us, and Bs are the others
@@ -51,7 +51,7 @@ queue-after t g ps k xs q = go xs q.punctual
     F : ℕ
     F = soonest t ps k
 
-    go : (xs : List Awaited) → Prompt t (lastRef ps) F xs → After (k + 1) (bounds_of g xs)
+    go : (xs : List Awaited) → Prompt t (last_ref ps) F xs → After (k + 1) (bounds_of g xs)
     go [] p = tt
     go (x ∷ xs) p = by (g x.request) (go xs p.1)
       where
@@ -59,28 +59,28 @@ queue-after t g ps k xs q = go xs q.punctual
         rest = only (λ x. g x.request) xs
 
         by : (b : Bool) → After (k + 1) (bounds_of g xs) → After (k + 1) (map (λ x. x.bound) (cond b (x ∷ rest) rest))
-        by true a = (le_trans (soonest-pace t ps k).now (due-by t (lastRef ps) F x p.0), a)
+        by true a = (le_trans (soonest_pace t ps k).now (due-by t (last_ref ps) F x p.0), a)
         by false a = a
 
 -- bounds that are not before k are not before an earlier clock
-pub after-mono : (j k : ℕ) (Bs : List ℕ) → j ≤ k → After k Bs → After j Bs
-after-mono j k [] h a = tt
-after-mono j k (B ∷ Bs) h a = (le_trans h a.0, after-mono j k Bs h a.1)
+pub after_mono : (j k : ℕ) (Bs : List ℕ) → j ≤ k → After k Bs → After j Bs
+after_mono j k [] h a = tt
+after_mono j k (B ∷ Bs) h a = (le_trans h a.0, after_mono j k Bs h a.1)
 
 -- the bound behind some others, once k has come to it, has been met
 module _ {A : Type 0} (bound : A → ℕ) (k : ℕ) (a : A) (newer : List A) (Bs : List ℕ) (late : bound a < k) (h : After k Bs) where
-  not-open : (older : List A) (Cs : List ℕ) → map bound (older ++ a ∷ newer) ≡ Cs → After k Cs → ⊥
-  not-open [] [] e f = nil≢cons (sym e)
-  not-open [] (C ∷ Cs) e f =
+  not_open : (older : List A) (Cs : List ℕ) → map bound (older ++ a ∷ newer) ≡ Cs → After k Cs → ⊥
+  not_open [] [] e f = nil≢cons (sym e)
+  not_open [] (C ∷ Cs) e f =
       let first = head-eq_of_cons-eq e in
       let near = f.0 in
       omega arith
-  not-open (b ∷ older) [] e f = nil≢cons (sym e)
-  not-open (b ∷ older) (C ∷ Cs) e f = not-open older Cs (tail-eq_of_cons-eq e) f.1
+  not_open (b ∷ older) [] e f = nil≢cons (sym e)
+  not_open (b ∷ older) (C ∷ Cs) e f = not_open older Cs (tail-eq_of_cons-eq e) f.1
 
   pub met_at : (older : List A) (us : List ℕ) → Met us (map bound (older ++ a ∷ newer)) Bs
       → (length older < length us) × (get_or us (length older) 0 + 1 ≤ bound a)
-  met_at older [] m = absurd (not-open older Bs m h)
+  met_at older [] m = absurd (not_open older Bs m h)
   met_at [] (u ∷ us) m = (omega arith, m.0)
   met_at (b ∷ older) (u ∷ us) m =
       let r = met_at older us m.1 in

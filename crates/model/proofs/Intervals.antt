@@ -17,19 +17,19 @@ Falling [] = Unit {0}
 Falling (k ∷ []) = Unit {0}
 Falling (k ∷ j ∷ js) = (j < k) × Falling (j ∷ js)
 
-falling-cons : (k : ℕ) (ks : List ℕ) → get_or ks 0 0 < k → Falling ks → Falling (k ∷ ks)
-falling-cons k [] h a = tt
-falling-cons k (j ∷ js) h a = (h, a)
+falling_cons : (k : ℕ) (ks : List ℕ) → get_or ks 0 0 < k → Falling ks → Falling (k ∷ ks)
+falling_cons k [] h a = tt
+falling_cons k (j ∷ js) h a = (h, a)
 
 -- the closing words of an ordered history fall
-pub closings-fall : (f : ClosedPair → Bool) (b : ℕ) (ps : List ClosedPair) → Ordered b ps → Falling (closings f ps)
-closings-fall f b [] o = tt
-closings-fall f b (p ∷ ps) o = go (f p) (closings-fall f p.start ps o.1)
+pub closings_fall : (f : ClosedPair → Bool) (b : ℕ) (ps : List ClosedPair) → Ordered b ps → Falling (closings f ps)
+closings_fall f b [] o = tt
+closings_fall f b (p ∷ ps) o = go (f p) (closings_fall f p.start ps o.1)
   where
     go : (x : Bool) → Falling (closings f ps) → Falling (cond x ((p.start + 1) ∷ closings f ps) (closings f ps))
     go true a =
         let h = closing-bound f p.start ps o.1 0 in
-        falling-cons (p.start + 1) (closings f ps) (omega arith) a
+        falling_cons (p.start + 1) (closings f ps) (omega arith) a
     go false a = a
 
 -- of falling clocks the eighth is at least seven behind the first, if there is one

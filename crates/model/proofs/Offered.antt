@@ -8,25 +8,25 @@ use native.Mathlib.Omega.{arith}
 use native.Mathlib.Nat.{le_refl}
 use lib.ListN.{length, length-map}
 use Rattle.config.specs.declared.Timing.{Timing}
-use Rattle.writing.specs.Writing.{requestFits}
+use Rattle.writing.specs.Writing.{request_fits}
 use Rattle.command.specs.declared.operation.Request.{Request}
 use Rattle.model.specs.Laid.{Course, start, leave, queued}
-use Rattle.rules.specs.Turns.{requestOf}
+use Rattle.rules.specs.Turns.{request_of}
 use Rattle.model.proofs.Figures.{Figures}
-use Rattle.model.proofs.Places.{only, only-append}
+use Rattle.model.proofs.Places.{only, only_append}
 use Rattle.model.proofs.Turn.{pair_at}
 use Rattle.model.proofs.Phases.{begin}
 use Rattle.model.proofs.Prompt.{Awaited}
 use Rattle.model.proofs.Choice.{Kind, open_more, leave-more, leave-length}
-use Rattle.model.proofs.Going.{atRest, Going, between, within}
-use Rattle.model.proofs.Fulfilled.{bounds_of, After, queue-after, after-mono}
+use Rattle.model.proofs.Going.{at_rest, Going, between, within}
+use Rattle.model.proofs.Fulfilled.{bounds_of, After, queue-after, after_mono}
 use Rattle.model.proofs.Unopened.{bound, queue-offer}
 
 module _ (t : Timing) (f : Figures t) (g : Kind t) where
   -- an accepted offer, before which at most w others open
-  pub offer-goes : (c : Course) (xs : List Awaited) (r : Request) (n w : ℕ) → requestFits t r ≡ true → n ≤ w → w < 24 → Going t f g c xs
+  pub offer_goes : (c : Course) (xs : List Awaited) (r : Request) (n w : ℕ) → request_fits t r ≡ true → n ≤ w → w < 24 → Going t f g c xs
       → Going t f g (queued c r) (xs ++ (record { request = r; rank = n; bound = bound t c.past.clock w } ∷ []))
-  offer-goes c xs r n w h low few (between b) =
+  offer_goes c xs r n w h low few (between b) =
       let x : Awaited = record { request = r; rank = n; bound = bound t c.past.clock w } in
       let k = b.clock in
       between
@@ -34,12 +34,12 @@ module _ (t : Timing) (f : Figures t) (g : Kind t) where
         pairs = b.pairs;
         clock = k;
         place = b.place;
-        at = ap (λ c. queued c r) b.at ∙ ap (atRest k b.pairs b.place) (sym (map-append (λ x. x.request) xs (x ∷ [])));
+        at = ap (λ c. queued c r) b.at ∙ ap (at_rest k b.pairs b.place) (sym (map-append (λ x. x.request) xs (x ∷ [])));
         ordered = b.ordered;
         phase = b.phase;
         queue = rw b.at (queue-offer t f b.pairs k k w b.ordered (le_refl k) (omega arith) few xs r n low h b.queue);
       })
-  offer-goes c xs r n w h low few (within p) =
+  offer_goes c xs r n w h low few (within p) =
       let x : Awaited = record { request = r; rank = n; bound = bound t c.past.clock w } in
       let o = p.operation in
       let u = p.start in
@@ -47,7 +47,7 @@ module _ (t : Timing) (f : Figures t) (g : Kind t) where
       let qs = pair_at t u o ∷ p.pairs in
       let stay = leave o p.place rs in
       let longer = leave-more o p.place rs (r ∷ []) p.chosen in
-      let behind = append_assoc (only g.of (requestOf o)) (only g.of stay) (only g.of (r ∷ [])) in
+      let behind = append_assoc (only g.of (request_of o)) (only g.of stay) (only g.of (r ∷ [])) in
       within
       (record {
         pairs = p.pairs;
@@ -57,7 +57,7 @@ module _ (t : Timing) (f : Figures t) (g : Kind t) where
         waiting = rs ++ (r ∷ []);
         at = ap (λ c. queued c r) p.at;
         chosen = open_more o p.place rs (r ∷ []) p.chosen;
-        ahead = rw (longer, only-append g.of stay (r ∷ []), only-append g.of rs (r ∷ []), ← p.ahead) (sym behind);
+        ahead = rw (longer, only_append g.of stay (r ∷ []), only_append g.of rs (r ∷ []), ← p.ahead) (sym behind);
         leaves = longer ∙ ap (λ rs. rs ++ (r ∷ [])) p.leaves ∙ sym (map-append (λ x. x.request) xs (x ∷ []));
         ordered = p.ordered;
         fits = p.fits;
@@ -68,8 +68,8 @@ module _ (t : Timing) (f : Figures t) (g : Kind t) where
             (queue-offer t f qs (u + 2) (u + 1) w (omega arith, p.ordered) (omega arith) (omega arith) few xs r n low h p.queue);
       })
 
-  pub start-goes : Going t f g start []
-  start-goes =
+  pub start_goes : Going t f g start []
+  start_goes =
       between
       (record {
         pairs = [];
@@ -96,4 +96,4 @@ module _ (t : Timing) (f : Figures t) (g : Kind t) where
   none_passed c xs (within w) =
       let u = w.start in
       let after = queue-after t g.of (pair_at t u w.operation ∷ w.pairs) (u + 2) xs w.queue in
-      rw w.at (after-mono (u + 1 + 1) (u + 2 + 1) (bounds_of g.of xs) (omega arith) after)
+      rw w.at (after_mono (u + 1 + 1) (u + 2 + 1) (bounds_of g.of xs) (omega arith) after)

@@ -10,39 +10,39 @@ use borrow.Author.Tests.{ltb-true, ltb-false}
 use lib.ListN.{length}
 use lib.Dec.{ltb}
 use Rattle.basics.specs.Outcome.{value, refused}
-use Rattle.config.specs.Configuration.{timingOf}
+use Rattle.config.specs.Configuration.{timing_of}
 use Rattle.config.specs.declared.Config.{Config}
 use Rattle.config.specs.declared.Timing.{Timing}
 use Rattle.command.specs.Pairs.{rda, lal}
-use Rattle.writing.specs.Writing.{requestFits}
-use Rattle.controller.specs.Steps.{Tick, held, joined, offerOf, notTicked, tickChoosing, tickOf}
+use Rattle.writing.specs.Writing.{request_fits}
+use Rattle.controller.specs.Steps.{Tick, held, joined, offer_of, not_ticked, tick_choosing, tick_of}
 use Rattle.controller.specs.declared.Controller.{Controller}
 use Rattle.command.specs.declared.operation.Request.{Request}
 use Rattle.command.specs.declared.operation.Operation.{Operation}
 use Rattle.command.specs.declared.operation.Operation.TheVariants.{Access, Regular, Extended, Refresh}
 use Rattle.rules.specs.History.{ClosedPair}
-use Rattle.rules.specs.Rules.{wasAccess}
+use Rattle.rules.specs.Rules.{was_access}
 use Rattle.model.specs.Laid.{Course}
 use Rattle.model.specs.Laid as laid
 use Rattle.model.specs.Runs.{
-  isAccess,
+  is_access,
   Call,
   offer,
   tick,
   Accepted,
   Run,
-  ifAccepted,
+  if_accepted,
   called,
   run_from,
   Prescribed,
   followed,
-  prescribedFrom,
+  prescribed_from,
 }
 use Rattle.model.proofs.Figures.{Figures}
-use Rattle.model.proofs.Turn.{pair_at, closes-with-lal}
-use Rattle.model.proofs.Places.{first-foremost}
+use Rattle.model.proofs.Turn.{pair_at, closes_with_lal}
+use Rattle.model.proofs.Places.{first_foremost}
 use Rattle.model.proofs.Prompt.{Awaited, lower, Positive, Spare}
-use Rattle.model.proofs.Choice.{ofKind, Kind, LawfulAt, unopened}
+use Rattle.model.proofs.Choice.{of_kind, Kind, LawfulAt, unopened}
 use Rattle.model.proofs.Offered.{none_more}
 use Rattle.model.proofs.Represents.{
   Represents,
@@ -54,10 +54,10 @@ use Rattle.model.proofs.Represents.{
   tick-represents,
   tick-ends,
 }
-use Rattle.model.proofs.Runs.{tickedAt, offeredAt, acceptedAt, Upheld, tick-upheld, joins, offer-upheld}
+use Rattle.model.proofs.Runs.{ticked_at, offered_at, accepted_at, Upheld, tick-upheld, joins, offer-upheld}
 
 -- a read or write pair closes with LAL, and no other
-pub access-by-lal : (p : ClosedPair) → wasAccess p ≡ lal p.second
+pub access-by-lal : (p : ClosedPair) → was_access p ≡ lal p.second
 access-by-lal p = go (rda p.first) (lal p.second)
   where
     go : (a l : Bool) → (a && l || not a && l) ≡ l
@@ -66,24 +66,24 @@ access-by-lal p = go (rda p.first) (lal p.second)
     go false l = refl
 
 -- of the kind that has all requests is what is a read or write
-pub access-kind : (o : Operation) → isAccess o ≡ ofKind (λ r. true) o
-access-kind (Access r) = refl
-access-kind (Regular a3) = refl
-access-kind (Extended v) = refl
-access-kind Refresh = refl
+pub access_kind : (o : Operation) → is_access o ≡ of_kind (λ r. true) o
+access_kind (Access r) = refl
+access_kind (Regular a3) = refl
+access_kind (Extended v) = refl
+access_kind Refresh = refl
 
 -- of one kind are all
 abbrev pub all : (t : Timing) → Figures t → Kind t
 all t f =
     record {
       of = λ r. true;
-      was = wasAccess;
-      same = λ u o fits. access-by-lal (pair_at t u o) ∙ closes-with-lal t f o fits ∙ access-kind o;
+      was = was_access;
+      same = λ u o fits. access-by-lal (pair_at t u o) ∙ closes_with_lal t f o fits ∙ access_kind o;
     }
 
 -- a refused call adds nothing
-nothing-added : {A : Type 0} (n : ℕ) (a : A) (all : List A) → all ++ ifAccepted (refused n) a ≡ all
-nothing-added n a all = append-nil all
+nothing_added : {A : Type 0} (n : ℕ) (a : A) (all : List A) → all ++ if_accepted (refused n) a ≡ all
+nothing_added n a all = append-nil all
 
 -- each rank is the place, the first being n
 abbrev pub ByPlace : ℕ → List Awaited → Type 0
@@ -118,10 +118,10 @@ others-spare : (xs : List Awaited) → ByPlace 0 xs → Spare 0 xs
 others-spare [] h = tt
 others-spare (x ∷ xs) h = by-place-positive 0 xs h.1
 
-module _ (c : Config) (t : Timing) (is : timingOf c ≡ value t) (f : Figures t) where
+module _ (c : Config) (t : Timing) (is : timing_of c ≡ value t) (f : Figures t) where
   -- the oldest is willing where it is chosen, every other has another before it, and it is the first of all
   lawful : (x : Course) (xs : List Awaited) → ByPlace 0 xs → LawfulAt t (all t f) x xs 0
-  lawful x xs h e = record { willing = λ may. may; fair = λ x e. others-spare xs h; ahead = first-foremost (λ x. true) xs }
+  lawful x xs h e = record { willing = λ may. may; fair = λ x e. others-spare xs h; ahead = first_foremost (λ x. true) xs }
 
   -- what every list of calls keeps
   pub record Kept (r : Run) (k : Prescribed) : Type 0 where
@@ -142,15 +142,15 @@ module _ (c : Config) (t : Timing) (is : timingOf c ≡ value t) (f : Figures t)
     pub is_held : held s ≡ x.waiting
     is_held = held-is c t s x h.represents
 
-    pub offer-comes : (q : Request) → offerOf s q ≡ refusing t s x.waiting q
-    offer-comes q =
+    pub offer_comes : (q : Request) → offer_of s q ≡ refusing t s x.waiting q
+    offer_comes q =
         let at = h.upheld.clock in
         let low = h.upheld.limit in
         offer-is c t is f (all t f) s x h.awaited q h.represents h.upheld.going (omega arith)
 
     -- a tick chooses the oldest
-    oldest : tickOf s ≡ tickChoosing t s 0
-    oldest = subst⁻¹ (λ s. tickOf s ≡ tickChoosing t s 0) h.represents.state (rw is)
+    oldest : tick_of s ≡ tick_choosing t s 0
+    oldest = subst⁻¹ (λ s. tick_of s ≡ tick_choosing t s 0) h.represents.state (rw is)
 
     pub ticks : length k.words < 16777216 → Ticks c t s 0 (laid.tick t x)
     ticks low =
@@ -158,10 +158,10 @@ module _ (c : Config) (t : Timing) (is : timingOf c ≡ value t) (f : Figures t)
         tick-represents c t is f (all t f) 0 s x h.awaited h.represents h.upheld.going (omega arith)
 
     pub tick_gives : (low : length k.words < 16777216)
-        → tickOf s ≡ record { outcome = value tt; word = (laid.tick t x).word; after = (ticks low).after }
+        → tick_of s ≡ record { outcome = value tt; word = (laid.tick t x).word; after = (ticks low).after }
     tick_gives low = oldest ∙ (ticks low).tick
 
-    pub tick-over : 16777216 ≤ length k.words → tickOf s ≡ notTicked s 24
+    pub tick-over : 16777216 ≤ length k.words → tick_of s ≡ not_ticked s 24
     tick-over over =
         let at = h.upheld.clock in
         let low = h.upheld.limit in
@@ -173,12 +173,12 @@ module _ (c : Config) (t : Timing) (is : timingOf c ≡ value t) (f : Figures t)
       where
         -- what an answer makes of the list
         from : Tick → Run
-        from y = record { words = r.words ++ ifAccepted y.outcome y.word; accepted = r.accepted; controller = y.after }
+        from y = record { words = r.words ++ if_accepted y.outcome y.word; accepted = r.accepted; controller = y.after }
 
-        given : length k.words < 16777216 → Kept (from (tickOf s)) (tickedAt 0 t k)
+        given : length k.words < 16777216 → Kept (from (tick_of s)) (ticked_at 0 t k)
         given low =
             let u = tick-upheld t f (all t f) 0 k r.accepted h.awaited 0 h.upheld (lawful x h.awaited h.ranks) low in
-            subst⁻¹ (λ y. Kept (from y) (tickedAt 0 t k)) (tick_gives low)
+            subst⁻¹ (λ y. Kept (from y) (ticked_at 0 t k)) (tick_gives low)
             (record {
               words = ap (λ ws. ws ++ ((laid.tick t x).word ∷ [])) h.words;
               represents = (ticks low).represents;
@@ -187,25 +187,25 @@ module _ (c : Config) (t : Timing) (is : timingOf c ≡ value t) (f : Figures t)
               upheld = u.upheld;
             })
 
-        by : (b : Bool) → ltb (length k.words) 16777216 ≡ b → Kept (called r tick) (cond b (tickedAt 0 t k) k)
+        by : (b : Bool) → ltb (length k.words) 16777216 ≡ b → Kept (called r tick) (cond b (ticked_at 0 t k) k)
         by true e = given (ltb-true (length k.words) 16777216 e)
-        by false e = rw (tick-over (ltb-false (length k.words) 16777216 e), nothing-added 24 0 r.words) h
+        by false e = rw (tick-over (ltb-false (length k.words) 16777216 e), nothing_added 24 0 r.words) h
 
     -- an offer
     offer-kept : (q : Request) → Kept (called r (offer q)) (followed t k (offer q))
-    offer-kept q = by (requestFits t q) (ltb (length x.waiting) 16) refl refl
+    offer-kept q = by (request_fits t q) (ltb (length x.waiting) 16) refl refl
       where
         a : Accepted
         a = record { request = q; ticks = length r.words; ahead = length (held s) }
 
-        same : a ≡ acceptedAt k q
+        same : a ≡ accepted_at k q
         same = rw (h.words, is_held)
 
         n : ℕ
         n = length h.awaited
 
-        taken : requestFits t q ≡ true → length x.waiting < 16
-            → Kept (record { words = r.words; accepted = r.accepted ++ (a ∷ []); controller = joined s q }) (offeredAt k q)
+        taken : request_fits t q ≡ true → length x.waiting < 16
+            → Kept (record { words = r.words; accepted = r.accepted ++ (a ∷ []); controller = joined s q }) (offered_at k q)
         taken fits few =
             let fewer = none_more t f (all t f) x h.awaited h.upheld.going in
             let y = joins t f (all t f) 0 k q n in
@@ -215,17 +215,17 @@ module _ (c : Config) (t : Timing) (is : timingOf c ≡ value t) (f : Figures t)
               represents = offer-represents c t s x q h.represents few;
               awaited = h.awaited ++ (y ∷ []);
               ranks = by-place-more 0 h.awaited y (omega arith) h.ranks;
-              upheld = subst⁻¹ (λ a. Upheld t f (all t f) 0 (offeredAt k q) (r.accepted ++ (a ∷ [])) (h.awaited ++ (y ∷ []))) same u;
+              upheld = subst⁻¹ (λ a. Upheld t f (all t f) 0 (offered_at k q) (r.accepted ++ (a ∷ [])) (h.awaited ++ (y ∷ []))) same u;
             }
 
-        by : (b d : Bool) → requestFits t q ≡ b → ltb (length x.waiting) 16 ≡ d
-            → Kept (called r (offer q)) (cond (b && d) (offeredAt k q) k)
-        by true true e g = rw (offer-comes q, e, g) (taken e (ltb-true (length x.waiting) 16 g))
-        by true false e g = rw (offer-comes q, e, g, nothing-added 27 a r.accepted) h
-        by false d e g = rw (offer-comes q, e, nothing-added 26 a r.accepted) h
+        by : (b d : Bool) → request_fits t q ≡ b → ltb (length x.waiting) 16 ≡ d
+            → Kept (called r (offer q)) (cond (b && d) (offered_at k q) k)
+        by true true e g = rw (offer_comes q, e, g) (taken e (ltb-true (length x.waiting) 16 g))
+        by true false e g = rw (offer_comes q, e, g, nothing_added 27 a r.accepted) h
+        by false d e g = rw (offer_comes q, e, nothing_added 26 a r.accepted) h
 
   -- every list of calls keeps it
-  pub all-kept : (r : Run) (k : Prescribed) (calls : List Call) → Kept r k → Kept (run_from r calls) (prescribedFrom t k calls)
+  pub all-kept : (r : Run) (k : Prescribed) (calls : List Call) → Kept r k → Kept (run_from r calls) (prescribed_from t k calls)
   all-kept r k [] h = h
   all-kept r k (tick ∷ calls) h = all-kept (called r tick) (followed t k tick) calls (tick-kept r k h)
   all-kept r k (offer q ∷ calls) h = all-kept (called r (offer q)) (followed t k (offer q)) calls (offer-kept r k h q)

@@ -18,9 +18,9 @@ pub lower-requests : (xs : List Awaited) → requests (map lower xs) ≡ request
 lower-requests [] = refl
 lower-requests (x ∷ xs) = ap (λ zs. x.request ∷ zs) (lower-requests xs)
 
-lower-bounds : (g : Request → Bool) (xs : List Awaited) → bounds_of g (map lower xs) ≡ bounds_of g xs
-lower-bounds g [] = refl
-lower-bounds g (x ∷ xs) = go (g x.request) (lower-bounds g xs)
+lower_bounds : (g : Request → Bool) (xs : List Awaited) → bounds_of g (map lower xs) ≡ bounds_of g xs
+lower_bounds g [] = refl
+lower_bounds g (x ∷ xs) = go (g x.request) (lower_bounds g xs)
   where
     ours : List Awaited → List Awaited
     ours xs = only (λ x. g x.request) xs
@@ -57,7 +57,7 @@ pub opened-met : (g : Request → Bool) (i : ℕ) (xs : List Awaited) (x : Await
     → Foremost (λ x. g x.request) i xs x → (us all : List ℕ) (u : ℕ) → u + 1 ≤ x.bound → Met us all (bounds_of g xs)
     → Met (us ++ cond (g r) (u ∷ []) []) all (bounds_of g (map lower (without i xs)))
 opened-met g i xs x r is e us all u h m =
-    rw (lower-bounds g (without i xs), ← is)
+    rw (lower_bounds g (without i xs), ← is)
     (go (g x.request) (subst (λ zs. Met us all (map (λ x. x.bound) zs)) (sym e) m))
   where
     rest : List Awaited

@@ -14,8 +14,8 @@ use Rattle.command.specs.declared.operation.Request.{Request}
 use Rattle.command.specs.declared.operation.Operation.{Operation}
 use Rattle.command.specs.declared.operation.Operation.TheVariants.{Regular, Extended, Refresh}
 use Rattle.rules.specs.History.{ClosedPair}
-use Rattle.rules.specs.Rules.{closings, wasExtended, wasRegular, wasRefresh}
-use Rattle.model.specs.Laid.{startUp, candidate, opening}
+use Rattle.rules.specs.Rules.{closings, was_extended, was_regular, was_refresh}
+use Rattle.model.specs.Laid.{start_up, candidate, opening}
 use Rattle.model.proofs.Figures.{Figures}
 use Rattle.model.proofs.Candidates.{FitIf}
 use Rattle.model.proofs.InTime.{Normal}
@@ -38,11 +38,11 @@ more f p ps m h = go (f p)
     go false = h
 
 -- one more pair leaves the start-up done
-pub stays-done : (p : ClosedPair) (ps : List ClosedPair) → startUp ps ≡ none → startUp (p ∷ ps) ≡ none
-stays-done p ps e =
-    let r = go (leb 1 (length (closings wasExtended ps))) (leb 1 (length (closings wasRegular ps)))
-    (leb 2 (length (closings wasRefresh ps))) (ap present e) in
-    rw (more wasExtended p ps 1 r.0, more wasRegular p ps 1 r.1, more wasRefresh p ps 2 r.2)
+pub stays_done : (p : ClosedPair) (ps : List ClosedPair) → start_up ps ≡ none → start_up (p ∷ ps) ≡ none
+stays_done p ps e =
+    let r = go (leb 1 (length (closings was_extended ps))) (leb 1 (length (closings was_regular ps)))
+    (leb 2 (length (closings was_refresh ps))) (ap present e) in
+    rw (more was_extended p ps 1 r.0, more was_regular p ps 1 r.1, more was_refresh p ps 2 r.2)
   where
     go : (a b c : Bool) → present (cond a (cond b (cond c none (some Refresh)) (some (Regular false))) (some (Extended 0))) ≡ false
         → (a ≡ true) × (b ≡ true) × (c ≡ true)
@@ -59,7 +59,7 @@ module _ (t : Timing) (f : Figures t) where
     after-regular : (g : ℕ) → 2 ≤ g → g ≤ t.rsc → ps ≡ regular t f g ∷ extended t f ∷ [] → g + 2 ≤ k → k ≤ 2 * t.rsc → Phase ps k
     after-refresh : (g e : ℕ) → 2 ≤ g → g ≤ t.rsc → g + 2 ≤ e → e ≤ 2 * t.rsc
         → ps ≡ pair_at t e Refresh ∷ regular t f g ∷ extended t f ∷ [] → e + 2 ≤ k → k ≤ 2 * t.rsc + t.refc → Phase ps k
-    settled : startUp ps ≡ none → Normal t ps k → Phase ps k
+    settled : start_up ps ≡ none → Normal t ps k → Phase ps k
 
   -- where a tick leads that opens nothing, or a pair
   abbrev pub Next : List ClosedPair → ℕ → Option Operation → Type 0
@@ -117,4 +117,4 @@ module _ (t : Timing) (f : Figures t) where
     where
       go : (o : Option Operation) → Turned t f ps k n o → Next ps k o
       go none m = settled done m
-      go (some o) m = settled (stays-done (pair_at t k o) ps done) m
+      go (some o) m = settled (stays_done (pair_at t k o) ps done) m

@@ -15,9 +15,9 @@ only g [] = []
 only g (x ∷ xs) = cond (g x) (x ∷ only g xs) (only g xs)
 
 -- those of a kind in two lists, one behind the other
-pub only-append : {A : Type 0} (g : A → Bool) (xs ys : List A) → only g (xs ++ ys) ≡ only g xs ++ only g ys
-only-append g [] ys = refl
-only-append g (x ∷ xs) ys = go (g x) (only-append g xs ys)
+pub only_append : {A : Type 0} (g : A → Bool) (xs ys : List A) → only g (xs ++ ys) ≡ only g xs ++ only g ys
+only_append g [] ys = refl
+only_append g (x ∷ xs) ys = go (g x) (only_append g xs ys)
   where
     go : (b : Bool) → only g (xs ++ ys) ≡ only g xs ++ only g ys
         → cond b (x ∷ only g (xs ++ ys)) (only g (xs ++ ys)) ≡ cond b (x ∷ only g xs) (only g xs) ++ only g ys
@@ -77,9 +77,9 @@ abbrev pub Foremost : {A : Type 0} → (A → Bool) → ℕ → List A → A →
 Foremost g p xs x = only g (x ∷ []) ++ only g (without p xs) ≡ only g xs
 
 -- the first of all is ahead of the others of any kind
-pub first-foremost : {A : Type 0} (g : A → Bool) (xs : List A) (x : A) → entry_at 0 xs ≡ some x → Foremost g 0 xs x
-first-foremost g [] x e = absurd (none-ne-some x e)
-first-foremost g (y ∷ xs) x e = go x (some-injective y x e)
+pub first_foremost : {A : Type 0} (g : A → Bool) (xs : List A) (x : A) → entry_at 0 xs ≡ some x → Foremost g 0 xs x
+first_foremost g [] x e = absurd (none-ne-some x e)
+first_foremost g (y ∷ xs) x e = go x (some-injective y x e)
   where
     one : (b : Bool) → cond b (y ∷ []) [] ++ only g xs ≡ cond b (y ∷ only g xs) (only g xs)
     one true = refl

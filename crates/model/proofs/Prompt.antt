@@ -74,9 +74,9 @@ module _ (t : Timing) where
   meets-later r q F B h (inr m) = inr m
 
   -- a later REF word calls for the next one later
-  pub later-ref : (r q F : ℕ) (xs : List Awaited) → r ≤ q → Prompt t r F xs → Prompt t q F xs
-  later-ref r q F [] h p = tt
-  later-ref r q F (x ∷ xs) h p = (meets-later r q (F + x.rank * t.spacing) x.bound h p.0, later-ref r q F xs h p.1)
+  pub later_ref : (r q F : ℕ) (xs : List Awaited) → r ≤ q → Prompt t r F xs → Prompt t q F xs
+  later_ref r q F [] h p = tt
+  later_ref r q F (x ∷ xs) h p = (meets-later r q (F + x.rank * t.spacing) x.bound h p.0, later_ref r q F xs h p.1)
 
   pub one_more : (r F : ℕ) (x : Awaited) (xs : List Awaited) → Prompt t r F xs → Meets t r (F + x.rank * t.spacing) x.bound
       → Prompt t r F (xs ++ (x ∷ []))
@@ -131,9 +131,9 @@ module _ (t : Timing) where
         inl (omega arith, ⊎_elim (λ n. omega arith) (λ n. omega arith) near)
 
     -- a refresh at k, once it is called for, puts all off by REFC
-    pub put-off : (F G : ℕ) (xs : List Awaited) → k ≤ F → G ≡ F + t.refc → Close k xs → Prompt t r F xs → Prompt t (k + 1) G xs
-    put-off F G [] h e c p = tt
-    put-off F G (x ∷ xs) h e c p = (
+    pub put_off : (F G : ℕ) (xs : List Awaited) → k ≤ F → G ≡ F + t.refc → Close k xs → Prompt t r F xs → Prompt t (k + 1) G xs
+    put_off F G [] h e c p = tt
+    put_off F G (x ∷ xs) h e c p = (
       meets-refresh (F + x.rank * t.spacing) (G + x.rank * t.spacing) x.bound (omega arith) (omega arith) c.0 p.0,
-      put-off F G xs h e c.1 p.1,
+      put_off F G xs h e c.1 p.1,
     )

@@ -12,16 +12,16 @@ use Rattle.config.specs.declared.Timing.{Timing}
 use Rattle.queue.specs.Place.{without}
 use Rattle.model.specs.Laid.{entry_at}
 use Rattle.rules.specs.History.{ClosedPair}
-use Rattle.rules.specs.Rules.{wasRead, wasWrite, wasRefresh}
+use Rattle.rules.specs.Rules.{was_read, was_write, was_refresh}
 use Rattle.model.proofs.Figures.{Figures}
 use Rattle.model.proofs.Candidates.{AllFit}
-use Rattle.model.proofs.InTime.{lastRef, latest-moved}
-use Rattle.model.proofs.Prompt.{Awaited, requests, lower, Prompt, Close, Spare, sooner, one-opened, entry-by, put-off}
-use Rattle.model.proofs.Soonest.{Pace, soonest, soonest-pace, pace-soonest}
+use Rattle.model.proofs.InTime.{last_ref, latest-moved}
+use Rattle.model.proofs.Prompt.{Awaited, requests, lower, Prompt, Close, Spare, sooner, one-opened, entry-by, put_off}
+use Rattle.model.proofs.Soonest.{Pace, soonest, soonest_pace, pace_soonest}
 
 -- the bounds hold at a clock k where no pair is open
 abbrev pub Punctual : Timing → List ClosedPair → ℕ → List Awaited → Type 0
-Punctual t ps k xs = Prompt t (lastRef ps) (soonest t ps k) xs
+Punctual t ps k xs = Prompt t (last_ref ps) (soonest t ps k) xs
 
 -- what holds of the requests that have not opened, at a clock k where no pair is open
 pub record Queue (t : Timing) (ps : List ClosedPair) (k : ℕ) (xs : List Awaited) : Type 0 where
@@ -33,12 +33,12 @@ pub record Queue (t : Timing) (ps : List ClosedPair) (k : ℕ) (xs : List Awaite
   pub punctual : Punctual t ps k xs
 
 module _ (t : Timing) (f : Figures t) (ps : List ClosedPair) (k F : ℕ) (c : Pace t ps k F) where
-  pace-idle : k + 1 < F → Pace t ps (k + 1) F
-  pace-idle h = record { now = omega arith; ready = c.ready; read = c.read; write = c.write; refresh = c.refresh }
+  pace_idle : k + 1 < F → Pace t ps (k + 1) F
+  pace_idle h = record { now = omega arith; ready = c.ready; read = c.read; write = c.write; refresh = c.refresh }
 
   module _ (p : ClosedPair) (at : p.start ≡ k) where
-    pace-access : wasRefresh p ≡ false → Pace t (p ∷ ps) (k + 2) (F + t.spacing)
-    pace-access e =
+    pace_access : was_refresh p ≡ false → Pace t (p ∷ ps) (k + 2) (F + t.spacing)
+    pace_access e =
         let now = c.now in
         let ready = c.ready in
         let read = c.read in
@@ -49,13 +49,13 @@ module _ (t : Timing) (f : Figures t) (ps : List ClosedPair) (k F : ℕ) (c : Pa
         record {
           now = omega arith;
           ready = omega arith;
-          read = latest-moved ps k p at wasRead t.spacing (F + t.spacing) (omega arith) (omega arith);
-          write = latest-moved ps k p at wasWrite t.spacing (F + t.spacing) (omega arith) (omega arith);
+          read = latest-moved ps k p at was_read t.spacing (F + t.spacing) (omega arith) (omega arith);
+          write = latest-moved ps k p at was_write t.spacing (F + t.spacing) (omega arith) (omega arith);
           refresh = rw e (omega arith);
         }
 
-    pace-refresh : wasRead p ≡ false → wasWrite p ≡ false → Pace t (p ∷ ps) (k + 2) (F + t.refc)
-    pace-refresh r w =
+    pace_refresh : was_read p ≡ false → was_write p ≡ false → Pace t (p ∷ ps) (k + 2) (F + t.refc)
+    pace_refresh r w =
         let now = c.now in
         let ready = c.ready in
         let read = c.read in
@@ -67,7 +67,7 @@ module _ (t : Timing) (f : Figures t) (ps : List ClosedPair) (k F : ℕ) (c : Pa
           ready = omega arith;
           read = rw r (omega arith);
           write = rw w (omega arith);
-          refresh = latest-moved ps k p at wasRefresh t.refc (F + t.refc) (omega arith) (omega arith);
+          refresh = latest-moved ps k p at was_refresh t.refc (F + t.refc) (omega arith) (omega arith);
         }
 
 module _ (t : Timing) (f : Figures t) (ps : List ClosedPair) (k : ℕ) where
@@ -77,32 +77,32 @@ module _ (t : Timing) (f : Figures t) (ps : List ClosedPair) (k : ℕ) where
   idle-punctual (x ∷ xs) (inl e) q = absurd (nil≢cons (sym e))
   idle-punctual xs (inr h) q =
       let F = soonest t ps k in
-      sooner t (lastRef ps) F (soonest t ps (k + 1)) xs (pace-soonest t ps (k + 1) F (pace-idle t f ps k F (soonest-pace t ps k) h)) q
+      sooner t (last_ref ps) F (soonest t ps (k + 1)) xs (pace_soonest t ps (k + 1) F (pace_idle t f ps k F (soonest_pace t ps k) h)) q
 
   module _ (p : ClosedPair) (at : p.start ≡ k) where
     -- a request opens within its bound, and the others keep theirs
-    pub access-punctual : (i : ℕ) (xs : List Awaited) (x : Awaited) → entry_at i xs ≡ some x → Spare i xs → wasRefresh p ≡ false
+    pub access-punctual : (i : ℕ) (xs : List Awaited) (x : Awaited) → entry_at i xs ≡ some x → Spare i xs → was_refresh p ≡ false
         → Punctual t ps k xs → (k + 1 ≤ x.bound) × Punctual t (p ∷ ps) (k + 2) (map lower (without i xs))
     access-punctual i xs x is spare e q =
         let F = soonest t ps k in
         let G = soonest t (p ∷ ps) (k + 2) in
-        let c = soonest-pace t ps k in
-        let pace = pace-soonest t (p ∷ ps) (k + 2) (F + t.spacing) (pace-access t f ps k F c p at e) in
-        let same : lastRef ps ≡ lastRef (p ∷ ps) = rw e in (
-          le_trans c.now (entry-by t (lastRef ps) F i xs x is q),
+        let c = soonest_pace t ps k in
+        let pace = pace_soonest t (p ∷ ps) (k + 2) (F + t.spacing) (pace_access t f ps k F c p at e) in
+        let same : last_ref ps ≡ last_ref (p ∷ ps) = rw e in (
+          le_trans c.now (entry-by t (last_ref ps) F i xs x is q),
           subst (λ r. Prompt t r G (map lower (without i xs))) same
-              (sooner t (lastRef ps) (F + t.spacing) G (map lower (without i xs)) pace (one-opened t (lastRef ps) F i xs spare q)),
+              (sooner t (last_ref ps) (F + t.spacing) G (map lower (without i xs)) pace (one-opened t (last_ref ps) F i xs spare q)),
         )
 
     -- a refresh that is called for leaves time for all
-    pub refresh-punctual : (xs : List Awaited) → wasRead p ≡ false → wasWrite p ≡ false → wasRefresh p ≡ true
-        → lastRef ps + t.refi ≤ k + t.rc → Close k xs → Punctual t ps k xs → Punctual t (p ∷ ps) (k + 2) xs
+    pub refresh-punctual : (xs : List Awaited) → was_read p ≡ false → was_write p ≡ false → was_refresh p ≡ true
+        → last_ref ps + t.refi ≤ k + t.rc → Close k xs → Punctual t ps k xs → Punctual t (p ∷ ps) (k + 2) xs
     refresh-punctual xs r w e due near q =
         let F = soonest t ps k in
         let G = soonest t (p ∷ ps) (k + 2) in
-        let c = soonest-pace t ps k in
+        let c = soonest_pace t ps k in
         let now = c.now in
-        let pace = pace-soonest t (p ∷ ps) (k + 2) (F + t.refc) (pace-refresh t f ps k F c p at r w) in
-        let new : k + 1 ≡ lastRef (p ∷ ps) = rw (e, at) in
-        let off = put-off t f (lastRef ps) k due F (F + t.refc) xs (le_trans (le-add_right k 1) now) refl near q in
+        let pace = pace_soonest t (p ∷ ps) (k + 2) (F + t.refc) (pace_refresh t f ps k F c p at r w) in
+        let new : k + 1 ≡ last_ref (p ∷ ps) = rw (e, at) in
+        let off = put_off t f (last_ref ps) k due F (F + t.refc) xs (le_trans (le-add_right k 1) now) refl near q in
         subst (λ r. Prompt t r G xs) new (sooner t (k + 1) (F + t.refc) G xs pace off)

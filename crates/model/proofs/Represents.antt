@@ -10,24 +10,24 @@ use lib.ListN.{length, length-append, replicate}
 use lib.Seq.{take-append_seam, set-append_seam}
 use lib.Dec.{eqb, ltb}
 use Rattle.basics.specs.Outcome.{value}
-use Rattle.config.specs.Configuration.{timingOf}
+use Rattle.config.specs.Configuration.{timing_of}
 use Rattle.config.specs.declared.Config.{Config}
 use Rattle.config.specs.declared.Timing.{Timing}
-use Rattle.writing.specs.Writing.{pair_of, requestFits}
+use Rattle.writing.specs.Writing.{pair_of, request_fits}
 use Rattle.command.specs.declared.operation.Request.{Request}
 use Rattle.command.specs.declared.operation.Operation.{Operation}
 use Rattle.rules.specs.History.{ClosedPair, free}
 use Rattle.stamps.specs.Stamps.{remembered}
 use Rattle.rules.proofs.Newest.{Ordered}
 use Rattle.rules.proofs.Summary.{summary, summary-step}
-use Rattle.rules.proofs.Words.{ordered-mono}
+use Rattle.rules.proofs.Words.{ordered_mono}
 use Rattle.checker.proofs.Before.{fits}
 use Rattle.model.specs.Laid.{entry_at, Course}
 use Rattle.model.specs.Laid as laid
-use Rattle.queue.specs.Queue.{vacant, all_fit, requestAt}
-use Rattle.scheduler.specs.Pairs.{pairWords, ofWaiting, placeOf, chosenAt, nextPair}
-use Rattle.controller.specs.Steps.{Offer, held, stateFits, joined, notOffered, offerOf, passes, notTicked, tickChoosing}
-use Rattle.model.specs.Runs.{isAccess, accessOpen}
+use Rattle.queue.specs.Queue.{vacant, all_fit, request_at}
+use Rattle.scheduler.specs.Pairs.{pair_words, of_waiting, place_of, chosen_at, next_pair}
+use Rattle.controller.specs.Steps.{Offer, held, state_fits, joined, not_offered, offer_of, passes, not_ticked, tick_choosing}
+use Rattle.model.specs.Runs.{is_access, access_open}
 use Rattle.controller.specs.declared.Controller.{Controller}
 use Rattle.scheduler.specs.declared.OpenPair.{OpenPair}
 use Rattle.scheduler.specs.declared.OpenPair.TheVariants.{Nothing}
@@ -36,22 +36,22 @@ use Rattle.model.proofs.Candidates.{AllFit, entry-fits, candidate-due}
 use Rattle.model.proofs.Prompt.{Awaited, requests}
 use Rattle.model.proofs.Turn.{idle}
 use Rattle.model.proofs.Choice.{Kind, all-fit, fit-back}
-use Rattle.model.proofs.Going.{opening-due, inPair, atRest, Going, between, within}
+use Rattle.model.proofs.Going.{opening-due, in_pair, at_rest, Going, between, within}
 use Rattle.model.proofs.Image.{
   stands_for,
-  pairIn,
+  pair_in,
   is_some,
-  words-in,
+  words_in,
   open_in,
-  waiting-in,
-  first-in,
+  waiting_in,
+  first_in,
   behind,
   Placed,
   none-placed,
   either-placed,
   OfWaiting,
-  of-waiting-test,
-  same-open,
+  of-waiting_test,
+  same_open,
   due-waiting,
   Left,
   left,
@@ -65,15 +65,15 @@ use Rattle.model.proofs.Image.{
 module _ (t : Timing) (f : Figures t) (g : Kind t) where
   ordered : (x : Course) (xs : List Awaited) → Going t f g x xs → Ordered x.past.clock x.past.pairs
   ordered x xs (between b) = rw b.at b.ordered
-  ordered x xs (within w) = rw w.at (ordered-mono w.start (w.start + 1) (omega arith) w.pairs w.ordered)
+  ordered x xs (within w) = rw w.at (ordered_mono w.start (w.start + 1) (omega arith) w.pairs w.ordered)
 
   begun : (x : Course) (xs : List Awaited) → Going t f g x xs → (eqb x.past.clock 0 && is_some x.opened) ≡ false
   begun x xs (between b) = rw (b.at, and-false)
   begun x xs (within w) = rw (w.at, ne_eqb (w.start + 1) 0 (λ q. omega arith))
 
-  all-in-range : (x : Course) (xs : List Awaited) → Going t f g x xs → all_fit t x.waiting ≡ true
-  all-in-range x xs (between b) = rw b.at (all-fit t (requests xs) b.queue.fit)
-  all-in-range x xs (within w) =
+  all_in_range : (x : Course) (xs : List Awaited) → Going t f g x xs → all_fit t x.waiting ≡ true
+  all_in_range x xs (between b) = rw b.at (all-fit t (requests xs) b.queue.fit)
+  all_in_range x xs (within w) =
       let rest = subst⁻¹ (AllFit t) w.leaves w.queue.fit in
       rw w.at (all-fit t w.waiting (fit-back t w.operation w.place w.waiting w.chosen w.fits rest))
 
@@ -122,7 +122,7 @@ module _ (c : Config) (t : Timing) where
             stands =
                 record {
                   room = omega arith;
-                  operation = same-open r.opened x.waiting q h.of-waiting ∙ h.operation;
+                  operation = same_open r.opened x.waiting q h.of-waiting ∙ h.operation;
                   of-waiting =
                       λ o.
                       let low = h.of-waiting o in
@@ -134,19 +134,19 @@ module _ (c : Config) (t : Timing) where
   -- an accepted tick that is handed this place gives this word and leads to this
   pub record Ticks (s : Controller) (q : ℕ) (a : laid.Advance) : Type 0 where
     pub after : Controller
-    pub tick : tickChoosing t s q ≡ record { outcome = value tt; word = a.word; after = after }
+    pub tick : tick_choosing t s q ≡ record { outcome = value tt; word = a.word; after = after }
     pub represents : Represents after a.after
 
 -- an offer, where 26 and 27 are all that it can be refused for
 abbrev pub refusing : Timing → Controller → List Request → Request → Offer
 refusing t s rs q =
-    cond (requestFits t q) (cond (ltb (length rs) 16) (record { outcome = value tt; after = joined s q }) (notOffered s 27))
-    (notOffered s 26)
+    cond (request_fits t q) (cond (ltb (length rs) 16) (record { outcome = value tt; after = joined s q }) (not_offered s 27))
+    (not_offered s 26)
 
-module _ (c : Config) (t : Timing) (is : timingOf c ≡ value t) (f : Figures t) (kd : Kind t) where
+module _ (c : Config) (t : Timing) (is : timing_of c ≡ value t) (f : Figures t) (kd : Kind t) where
   -- the state is one that calls make, so 19 has no ground
   state-fits : (x : Course) (xs : List Awaited) (p : OpenPair) (n : ℕ) → Going t f kd x xs → x.past.clock ≤ 16777216 → Stands x p n
-      → stateFits t (image c t x p n) ≡ true
+      → state_fits t (image c t x p n) ≡ true
   state-fits x xs p n g low h =
       let rs = x.waiting in
       let room = h.room in
@@ -157,39 +157,39 @@ module _ (c : Config) (t : Timing) (is : timingOf c ≡ value t) (f : Figures t)
         begun t f kd x xs g,
         le-leb (length rs) 16 (omega arith),
         take-append_seam rs (replicate n vacant),
-        all-in-range t f kd x xs g,
-        of-waiting-test p rs h.of-waiting,
+        all_in_range t f kd x xs g,
+        of-waiting_test p rs h.of-waiting,
       )
 
   pub offer-is : (s : Controller) (x : Course) (xs : List Awaited) (q : Request) → Represents c t s x → Going t f kd x xs
-      → x.past.clock ≤ 16777216 → offerOf s q ≡ refusing t s x.waiting q
+      → x.past.clock ≤ 16777216 → offer_of s q ≡ refusing t s x.waiting q
   offer-is s x xs q r g low =
-      subst⁻¹ (λ s. offerOf s q ≡ refusing t s x.waiting q) r.state
+      subst⁻¹ (λ s. offer_of s q ≡ refusing t s x.waiting q) r.state
       (rw (is, state-fits x xs r.opened r.spare g low r.stands))
 
   -- where no pair is open
-  starts-as : (q : ℕ) (ps : List ClosedPair) (k i : ℕ) (xs : List Awaited) (p : OpenPair) (n : ℕ) → Ordered k ps → AllFit t (requests xs)
-      → let x = atRest k ps i (requests xs) in
-      Going t f kd x xs → k < 16777216 → Stands x p n → Ticks c t (image c t x p n) q (laid.tickAt q t x)
-  starts-as q ps k i xs p n o a g low h =
+  starts_as : (q : ℕ) (ps : List ClosedPair) (k i : ℕ) (xs : List Awaited) (p : OpenPair) (n : ℕ) → Ordered k ps → AllFit t (requests xs)
+      → let x = at_rest k ps i (requests xs) in
+      Going t f kd x xs → k < 16777216 → Stands x p n → Ticks c t (image c t x p n) q (laid.tick_at q t x)
+  starts_as q ps k i xs p n o a g low h =
       let rs = requests xs in
-      let x = atRest k ps i rs in
+      let x = at_rest k ps i rs in
       let y = entry_at q rs in
       let asked = laid.candidate t (idle k ps) y in
       let opening = laid.opening t (idle k ps) asked in
       let in-range = candidate-due t (idle k ps) y (entry-fits t q rs a) in
       let due = (opening-due t y (idle k ps) asked in-range).0 in
-      let next = nextPair t (summary t.four ps) k (chosenAt q (length rs)) in
-      let pass = passes t (summary t.four ps) k (pairWords t next (requestAt q rs)) in
+      let next = next_pair t (summary t.four ps) k (chosen_at q (length rs)) in
+      let pass = passes t (summary t.four ps) k (pair_words t next (request_at q rs)) in
       let opens = cond pass next Nothing in
       let at = next-placed t ps k q (length rs) in
       let placed : Placed q opens = either-placed q pass next Nothing at (none-placed q) in
       let same : stands_for opens rs ≡ opening = opens-is t ps k f q rs y next asked o in-range at (next-is t ps k q rs) in
-      let word : (pairWords t opens (requestAt q rs)).first ≡ laid.first_word t opening =
-      ap (λ w. w.first) (words-in t q opens rs placed) ∙ ap (λ y. (pairIn t y).first) same ∙ first-in t opening in
-      let of-request : ofWaiting opens ≡ true → accessOpen opening ≡ true = λ w. sym (ap accessOpen same) ∙ sym (waiting-in opens rs) ∙ w in
+      let word : (pair_words t opens (request_at q rs)).first ≡ laid.first_word t opening =
+      ap (λ w. w.first) (words_in t q opens rs placed) ∙ ap (λ y. (pair_in t y).first) same ∙ first_in t opening in
+      let of-request : of_waiting opens ≡ true → access_open opening ≡ true = λ w. sym (ap access_open same) ∙ sym (waiting_in opens rs) ∙ w in
       record {
-        after = image c t (laid.tickAt q t x).after opens n;
+        after = image c t (laid.tick_at q t x).after opens n;
         tick =
             rw (
               state-fits x xs p n g (omega arith) h,
@@ -216,28 +216,28 @@ module _ (c : Config) (t : Timing) (is : timingOf c ≡ value t) (f : Figures t)
 
   -- where one is
   closes_as : (q : ℕ) (ps : List ClosedPair) (u : ℕ) (o : Operation) (i : ℕ) (rs : List Request) (xs : List Awaited) (p : OpenPair) (n : ℕ)
-      → Left o i (placeOf p) rs n → let x = inPair t u o ps i rs in
-      Going t f kd x xs → u + 1 < 16777216 → Stands x p n → Ticks c t (image c t x p n) q (laid.tickAt q t x)
+      → Left o i (place_of p) rs n → let x = in_pair t u o ps i rs in
+      Going t f kd x xs → u + 1 < 16777216 → Stands x p n → Ticks c t (image c t x p n) q (laid.tick_at q t x)
   closes_as q ps u o i rs xs p n l g low h =
-      let x = inPair t u o ps i rs in
+      let x = in_pair t u o ps i rs in
       let w = pair_of t o in
-      let kind : ofWaiting p ≡ isAccess o = waiting-in p rs ∙ ap accessOpen h.operation in
+      let kind : of_waiting p ≡ is_access o = waiting_in p rs ∙ ap access_open h.operation in
       let stamps = summary t.four ps in
       let from : u + 1 - 1 + 1 ≡ u + 1 = omega arith in
-      let kept : remembered t.four stamps (u + 1) w.first w.second ≡ summary t.four (laid.tickAt q t x).after.past.pairs =
+      let kept : remembered t.four stamps (u + 1) w.first w.second ≡ summary t.four (laid.tick_at q t x).after.past.pairs =
       sym
       (summary-step t.four (u + 1 - 1) w.first w.second ps
       ∙ ap (λ k. remembered t.four stamps k w.first w.second) from) in
-      let words : pairWords t p (requestAt (placeOf p) rs) ≡ w = words-in t (placeOf p) p rs (λ a. refl) ∙ ap (pairIn t) h.operation in
+      let words : pair_words t p (request_at (place_of p) rs) ≡ w = words_in t (place_of p) p rs (λ a. refl) ∙ ap (pair_in t) h.operation in
       record {
-        after = image c t (laid.tickAt q t x).after Nothing l.vacancies;
+        after = image c t (laid.tick_at q t x).after Nothing l.vacancies;
         tick =
             rw (
               state-fits x xs p n g (omega arith) h,
               lt-ltb (u + 1) 16777216 low,
               open_in p rs,
               h.operation,
-              behind rs n (placeOf p),
+              behind rs n (place_of p),
               words,
               kind,
               kept,
@@ -255,29 +255,29 @@ module _ (c : Config) (t : Timing) (is : timingOf c ≡ value t) (f : Figures t)
 
   abbrev Leads : ℕ → List Awaited → OpenPair → ℕ → Course → Type 0
   Leads q xs p n x =
-      Going t f kd x xs → x.past.clock < 16777216 → Stands x p n → Ticks c t (image c t x p n) q (laid.tickAt q t x)
+      Going t f kd x xs → x.past.clock < 16777216 → Stands x p n → Ticks c t (image c t x p n) q (laid.tick_at q t x)
 
   leads : (q : ℕ) (x : Course) (xs : List Awaited) (p : OpenPair) (n : ℕ) → Going t f kd x xs → Leads q xs p n x
   leads q x xs p n (between b) =
-      subst⁻¹ (Leads q xs p n) b.at (starts-as q b.pairs b.clock b.place xs p n b.ordered b.queue.fit)
+      subst⁻¹ (Leads q xs p n) b.at (starts_as q b.pairs b.clock b.place xs p n b.ordered b.queue.fit)
   leads q x xs p n (within w) =
       let o = w.operation in
       let rs = w.waiting in
       subst⁻¹ (Leads q xs p n) w.at
       (λ g low h.
-      let kind = waiting-in p rs ∙ ap accessOpen h.operation in
-      let l = left o w.place (placeOf p) rs n w.chosen (λ a. h.placed (kind ∙ a)) h.room in
+      let kind = waiting_in p rs ∙ ap access_open h.operation in
+      let l = left o w.place (place_of p) rs n w.chosen (λ a. h.placed (kind ∙ a)) h.room in
       closes_as q w.pairs w.start o w.place rs xs p n l g low h)
 
   -- a tick that is handed the choice of the request at place q
   pub tick-represents : (q : ℕ) (s : Controller) (x : Course) (xs : List Awaited) → Represents c t s x → Going t f kd x xs
-      → x.past.clock < 16777216 → Ticks c t s q (laid.tickAt q t x)
+      → x.past.clock < 16777216 → Ticks c t s q (laid.tick_at q t x)
   tick-represents q s x xs r g low =
-      subst⁻¹ (λ s. Ticks c t s q (laid.tickAt q t x)) r.state (leads q x xs r.opened r.spare g g low r.stands)
+      subst⁻¹ (λ s. Ticks c t s q (laid.tick_at q t x)) r.state (leads q x xs r.opened r.spare g g low r.stands)
 
   -- at the limit a tick is refused, whatever is chosen
   pub tick-ends : (q : ℕ) (s : Controller) (x : Course) (xs : List Awaited) → Represents c t s x → Going t f kd x xs
-      → x.past.clock ≡ 16777216 → tickChoosing t s q ≡ notTicked s 24
+      → x.past.clock ≡ 16777216 → tick_choosing t s q ≡ not_ticked s 24
   tick-ends q s x xs r g end =
-      subst⁻¹ (λ s. tickChoosing t s q ≡ notTicked s 24) r.state
+      subst⁻¹ (λ s. tick_choosing t s q ≡ not_ticked s 24) r.state
       (rw (state-fits x xs r.opened r.spare g (omega arith) r.stands, le-ltb x.past.clock 16777216 (omega arith)))

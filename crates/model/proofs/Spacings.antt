@@ -8,8 +8,8 @@ use lib.ListN.{get_or}
 use Rattle.config.specs.declared.Timing.{Timing}
 use Rattle.roundtrip.proofs.SoundPair.{sound-tests}
 use Rattle.command.specs.Pairs.{rda, lal}
-use Rattle.reading.specs.Reading.{soundPair}
-use Rattle.rules.specs.Breaches.{near, deadline, overdue, bankStamp, notReady, wordBreach}
+use Rattle.reading.specs.Reading.{sound_pair}
+use Rattle.rules.specs.Breaches.{near, deadline, overdue, bank_stamp, not_ready, word_breach}
 use Rattle.stamps.specs.declared.Timestamps.{Timestamps}
 
 -- the spacing n behind an event at c, if there was one, has run out by k
@@ -34,11 +34,11 @@ pub record RefreshFree (t : Timing) (s : Timestamps) (k : ℕ) : Type 0 where
   pub window : Over k (get_or s.refs 7 0) t.window
 
 -- the first word of a refresh passes in time
-pub refresh-first : (t : Timing) (s : Timestamps) (k : ℕ) → InTime t s k → wordBreach t s k 0xC0000 0x80000 ≡ 0
+pub refresh-first : (t : Timing) (s : Timestamps) (k : ℕ) → InTime t s k → word_breach t s k 0xC0000 0x80000 ≡ 0
 refresh-first t s k h = rw h
 
 -- a REF word passes where nothing holds it back
-pub refresh-closes : (t : Timing) (s : Timestamps) (k : ℕ) → InTime t s k → RefreshFree t s k → wordBreach t s k 0x80000 0x80000 ≡ 0
+pub refresh-closes : (t : Timing) (s : Timestamps) (k : ℕ) → InTime t s k → RefreshFree t s k → word_breach t s k 0x80000 0x80000 ≡ 0
 refresh-closes t s k h f =
     rw (
       h,
@@ -51,7 +51,7 @@ refresh-closes t s k h f =
 
 -- what binds a mode pair that closes at k where no read or write has been
 pub record ModeFree (t : Timing) (s : Timestamps) (k first second : ℕ) : Type 0 where
-  pub sound : soundPair t first second ≡ true
+  pub sound : sound_pair t first second ≡ true
   pub closes : lal second ≡ false
   pub rda : rda first ≡ true
   pub read : s.read ≡ 0
@@ -61,7 +61,7 @@ pub record ModeFree (t : Timing) (s : Timestamps) (k first second : ℕ) : Type 
 
 -- an MRS word passes where nothing holds it back
 pub mode-closes : (t : Timing) (s : Timestamps) (k first second : ℕ) → InTime t s k → ModeFree t s k first second
-    → wordBreach t s k first second ≡ 0
+    → word_breach t s k first second ≡ 0
 mode-closes t s k first second h f =
     let w = sound-tests t first second f.sound in
     rw (w.mode, w.lane)
@@ -80,10 +80,10 @@ mode-closes t s k first second h f =
 
 -- what binds a read or write that closes at k, with these words
 pub record AccessFree (t : Timing) (s : Timestamps) (k first second : ℕ) : Type 0 where
-  pub sound : soundPair t first second ≡ true
+  pub sound : sound_pair t first second ≡ true
   pub lal : lal second ≡ true
-  pub ready : notReady s.extended s.regular (get_or s.refs 1 0) k ≡ false
-  pub bank : Over k (bankStamp t.four s first) t.rc
+  pub ready : not_ready s.extended s.regular (get_or s.refs 1 0) k ≡ false
+  pub bank : Over k (bank_stamp t.four s first) t.rc
   pub read : Over k s.read t.rbd
   pub write : Over k s.write t.rbd
   pub turn-write : Over k s.read (t.rwd + 1)
@@ -92,15 +92,15 @@ pub record AccessFree (t : Timing) (s : Timestamps) (k first second : ℕ) : Typ
   pub refresh : Over k (get_or s.refs 0 0) t.refc
 
 -- the first word of a sound pair passes in time
-pub sound-first : (t : Timing) (s : Timestamps) (k first second : ℕ) → InTime t s k → soundPair t first second ≡ true
-    → wordBreach t s k 0xC0000 first ≡ 0
+pub sound-first : (t : Timing) (s : Timestamps) (k first second : ℕ) → InTime t s k → sound_pair t first second ≡ true
+    → word_breach t s k 0xC0000 first ≡ 0
 sound-first t s k first second h e =
     let w = sound-tests t first second e in
     rw (h, w.stray₁, w.pd₁)
 
 -- a LAL passes where nothing holds it back
 pub access-closes : (t : Timing) (s : Timestamps) (k first second : ℕ) → InTime t s k → AccessFree t s k first second
-    → wordBreach t s k first second ≡ 0
+    → word_breach t s k first second ≡ 0
 access-closes t s k first second h f =
     let w = sound-tests t first second f.sound in
     rw (
@@ -113,7 +113,7 @@ access-closes t s k first second h f =
       w.cs,
       f.lal,
       f.ready,
-      over-near k (bankStamp t.four s first) t.rc f.bank,
+      over-near k (bank_stamp t.four s first) t.rc f.bank,
       over-near k s.read t.rbd f.read,
       over-near k s.write t.rbd f.write,
       over-near k s.read (t.rwd + 1) f.turn-write,

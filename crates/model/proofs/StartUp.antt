@@ -11,7 +11,7 @@ use lib.Dec.{leb}
 use Rattle.config.specs.declared.Timing.{Timing}
 use Rattle.command.specs.Pins.{high}
 use Rattle.command.specs.Pairs.{rda, lal}
-use Rattle.reading.specs.Reading.{modeBy, accessOf, operationOf, soundPair}
+use Rattle.reading.specs.Reading.{mode_by, access_of, operation_of, sound_pair}
 use Rattle.writing.specs.Writing.{pair_of}
 use Rattle.command.specs.declared.operation.Operation.{Operation}
 use Rattle.command.specs.declared.operation.Operation.TheVariants.{Access, Regular, Extended, Refresh}
@@ -40,11 +40,11 @@ waits t p o k limit h = by (breachless t p (pair_of t o)) (leb limit k) refl ref
     by false false e l = inr (refl, leb-false limit k l)
 
 -- a pair that reads as a regular mode has RDA, MRS and BA0 low
-abbrev isRegular : Operation → Bool
-isRegular (Access r) = false
-isRegular (Regular a3) = true
-isRegular (Extended v) = false
-isRegular Refresh = false
+abbrev is_regular : Operation → Bool
+is_regular (Access r) = false
+is_regular (Regular a3) = true
+is_regular (Extended v) = false
+is_regular Refresh = false
 
 -- the pins of the regular mode that the proofs ask for
 pub record RegularPins (f s : ℕ) : Type 0 where
@@ -52,12 +52,12 @@ pub record RegularPins (f s : ℕ) : Type 0 where
   pub closes : lal s ≡ false
   pub ba0 : high 14 s ≡ false
 
-regular-pins : (t : Timing) (f s : ℕ) (a3 : Bool) → operationOf t f s ≡ Regular a3 → RegularPins f s
+regular-pins : (t : Timing) (f s : ℕ) (a3 : Bool) → operation_of t f s ≡ Regular a3 → RegularPins f s
 regular-pins t f s a3 e =
-    let r = go (lal s) (rda f) (high 14 s) (ap isRegular e) in
+    let r = go (lal s) (rda f) (high 14 s) (ap is_regular e) in
     record { rda = r.1; closes = r.0; ba0 = r.2 }
   where
-    go : (l a x : Bool) → isRegular (cond l (Access (accessOf t (not (rda f)) f s)) (cond a (modeBy x s) Refresh)) ≡ true
+    go : (l a x : Bool) → is_regular (cond l (Access (access_of t (not (rda f)) f s)) (cond a (mode_by x s) Refresh)) ≡ true
         → (l ≡ false) × (a ≡ true) × (x ≡ false)
     go true a x h = absurd (false≢true h)
     go false true true h = absurd (false≢true h)
@@ -76,7 +76,7 @@ module _ (t : Timing) (f : Figures t) where
   abbrev mrs : ℕ
   mrs = (pair_of t (Regular false)).second
 
-  written : (soundPair t 0xA0000 mrs ≡ true) × (operationOf t 0xA0000 mrs ≡ Regular false)
+  written : (sound_pair t 0xA0000 mrs ≡ true) × (operation_of t 0xA0000 mrs ≡ Regular false)
   written = written_back t f.bl f.cl (Regular false) refl
 
   pub pins : RegularPins 0xA0000 mrs

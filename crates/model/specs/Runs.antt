@@ -5,14 +5,14 @@ use Rattle.basics.specs.Numbers.{limit}
 use Rattle.basics.specs.Outcome.{Outcome, value, refused}
 use Rattle.config.specs.declared.Config.{Config}
 use Rattle.config.specs.declared.Timing.{Timing}
-use Rattle.writing.specs.Writing.{requestFits}
+use Rattle.writing.specs.Writing.{request_fits}
 use Rattle.command.specs.declared.operation.Request.{Request}
 use Rattle.command.specs.declared.operation.Operation.{Operation}
 use Rattle.command.specs.declared.operation.Operation.TheVariants.{Access, Regular, Extended, Refresh}
-use Rattle.rules.specs.Turns.{pairsOf, starts}
+use Rattle.rules.specs.Turns.{pairs_of, starts}
 use Rattle.model.specs.Laid as laid
 use Rattle.controller.specs.States.{fresh}
-use Rattle.controller.specs.Steps.{held, offerOf, tickOf}
+use Rattle.controller.specs.Steps.{held, offer_of, tick_of}
 use Rattle.controller.specs.declared.Controller.{Controller}
 
 -- a call of the list
@@ -34,19 +34,19 @@ pub record Run : Type 0 where
   pub controller : Controller
 
 -- what a call adds to a list: nothing if it was refused
-abbrev pub ifAccepted : {A : Type 0} → Outcome (Unit {0}) → A → List A
-ifAccepted (value u) a = a ∷ []
-ifAccepted (refused n) a = []
+abbrev pub if_accepted : {A : Type 0} → Outcome (Unit {0}) → A → List A
+if_accepted (value u) a = a ∷ []
+if_accepted (refused n) a = []
 
 -- one call more, on the controller that the last one handed back
 abbrev pub called : Run → Call → Run
 called r (offer q) =
-    let o = offerOf r.controller q in
+    let o = offer_of r.controller q in
     let a : Accepted = record { request = q; ticks = length r.words; ahead = length (held r.controller) } in
-    record { words = r.words; accepted = r.accepted ++ ifAccepted o.outcome a; controller = o.after }
+    record { words = r.words; accepted = r.accepted ++ if_accepted o.outcome a; controller = o.after }
 called r tick =
-    let k = tickOf r.controller in
-    record { words = r.words ++ ifAccepted k.outcome k.word; accepted = r.accepted; controller = k.after }
+    let k = tick_of r.controller in
+    record { words = r.words ++ if_accepted k.outcome k.word; accepted = r.accepted; controller = k.after }
 
 -- a list of calls more
 abbrev pub run_from : Run → List Call → Run
@@ -64,43 +64,43 @@ pub record Prescribed : Type 0 where
 
 -- one call more, where a tick with no pair open chooses the request at place i: an offer is accepted if its request is in range and fewer
 -- than sixteen wait, a tick below clock 16,777,216
-abbrev pub followedAt : ℕ → Timing → Prescribed → Call → Prescribed
-followedAt i t k (offer q) =
-    cond (requestFits t q && ltb (length k.course.waiting) 16) (record { words = k.words; course = laid.queued k.course q }) k
-followedAt i t k tick =
-    let a = laid.tickAt i t k.course in
+abbrev pub followed_at : ℕ → Timing → Prescribed → Call → Prescribed
+followed_at i t k (offer q) =
+    cond (request_fits t q && ltb (length k.course.waiting) 16) (record { words = k.words; course = laid.queued k.course q }) k
+followed_at i t k tick =
+    let a = laid.tick_at i t k.course in
     cond (ltb (length k.words) limit) (record { words = k.words ++ (a.word ∷ []); course = a.after }) k
 
 -- one call more, of the controller that opens the oldest request
 abbrev pub followed : Timing → Prescribed → Call → Prescribed
-followed t k x = followedAt 0 t k x
+followed t k x = followed_at 0 t k x
 
 -- a list of calls more
-abbrev pub prescribedFrom : Timing → Prescribed → List Call → Prescribed
-prescribedFrom t k [] = k
-prescribedFrom t k (x ∷ xs) = prescribedFrom t (followed t k x) xs
+abbrev pub prescribed_from : Timing → Prescribed → List Call → Prescribed
+prescribed_from t k [] = k
+prescribed_from t k (x ∷ xs) = prescribed_from t (followed t k x) xs
 
 -- what is laid down for a list of calls from power-up
 abbrev pub prescribed : Timing → List Call → Prescribed
-prescribed t calls = prescribedFrom t (record { words = []; course = laid.start }) calls
+prescribed t calls = prescribed_from t (record { words = []; course = laid.start }) calls
 
 -- an operation is a request
-abbrev pub isAccess : Operation → Bool
-isAccess (Access r) = true
-isAccess (Regular a3) = false
-isAccess (Extended v) = false
-isAccess Refresh = false
+abbrev pub is_access : Operation → Bool
+is_access (Access r) = true
+is_access (Regular a3) = false
+is_access (Extended v) = false
+is_access Refresh = false
 
 -- the pair that is open is a request's
-abbrev pub accessOpen : Option Operation → Bool
-accessOpen none = false
-accessOpen (some o) = isAccess o
+abbrev pub access_open : Option Operation → Bool
+access_open none = false
+access_open (some o) = is_access o
 
 -- the first words of the accepted requests, oldest first: those of the closed read and write pairs; and if the pair of the oldest waiting
 -- request is open at the end, the last word given is its first
-abbrev pub firstWords : List ℕ → Option Operation → List ℕ
-firstWords words opened = starts (pairsOf words) ++ cond (accessOpen opened) ((length words - 1) ∷ []) []
+abbrev pub first_words : List ℕ → Option Operation → List ℕ
+first_words words opened = starts (pairs_of words) ++ cond (access_open opened) ((length words - 1) ∷ []) []
 
 -- the bound on a request's first word: max(c, 201) + (q + 1) × S + RC + REFC
-abbrev pub latestStart : Timing → Accepted → ℕ
-latestStart t a = max a.ticks 201 + (a.ahead + 1) * t.spacing + t.rc + t.refc
+abbrev pub latest_start : Timing → Accepted → ℕ
+latest_start t a = max a.ticks 201 + (a.ahead + 1) * t.spacing + t.rc + t.refc

@@ -22,7 +22,7 @@ pub record Promises : Type 0 where
   -- a trace is cut into pairs and single words in one way, and its pairs are those that the rules speak of (RULES 2.2)
   pub turns : Turns
   -- whoever goes through a trace turn by turn takes just these, and each turn starts with no pair open (RULES 9.2)
-  pub every-turn : EveryTurn
+  pub every_turn : EveryTurn
   -- the few timestamps that are kept find every breach that the published rules find in the whole past (RULES 4)
   pub kept : Enough
   -- word by word the checker comes to the published verdict (RULES 5.4), and so does a walk over lent words (RULES 5.5)
@@ -41,7 +41,7 @@ pub record Promises : Type 0 where
   pub lengths : Lengths
   -- demand 3: the controller's words are those laid down, they pass, and requests come out in order and in time (RULES 8.7); so for lists
   -- in which calls on a borrowed controller are mixed with the others (RULES 8.8)
-  pub demand-3 : Demand3
+  pub demand_3 : Demand3
   pub either-form : EitherForm
   -- a refused sheet is refused by the same number by every call (RULES 7.1)
   pub refused-sheets : Sheets

@@ -9,39 +9,39 @@ use lib.ListN.{length, get_or}
 use lib.Dec.{eqb}
 use Rattle.config.proofs.Bounds.{both}
 use Rattle.command.specs.declared.operation.Request.{Request}
-use Rattle.queue.specs.Totals.{forBank, totalsFrom, totalsOf, AreTotals, all_below, sameTotals}
+use Rattle.queue.specs.Totals.{for_bank, totals_from, totals_of, AreTotals, all_below, same_totals}
 
-pub for-append : (b : ℕ) (xs ys : List Request) → forBank b (xs ++ ys) ≡ forBank b xs + forBank b ys
-for-append b [] ys = omega arith
-for-append b (x ∷ xs) ys = by (eqb x.bank b) (forBank b xs) (for-append b xs ys)
+pub for_append : (b : ℕ) (xs ys : List Request) → for_bank b (xs ++ ys) ≡ for_bank b xs + for_bank b ys
+for_append b [] ys = omega arith
+for_append b (x ∷ xs) ys = by (eqb x.bank b) (for_bank b xs) (for_append b xs ys)
   where
-    by : (e : Bool) (n : ℕ) → forBank b (xs ++ ys) ≡ n + forBank b ys
-        → cond e (suc (forBank b (xs ++ ys))) (forBank b (xs ++ ys)) ≡ cond e (suc n) n + forBank b ys
+    by : (e : Bool) (n : ℕ) → for_bank b (xs ++ ys) ≡ n + for_bank b ys
+        → cond e (suc (for_bank b (xs ++ ys))) (for_bank b (xs ++ ys)) ≡ cond e (suc n) n + for_bank b ys
     by true n h = omega arith
     by false n h = h
 
-pub few : (b : ℕ) (rs : List Request) → forBank b rs ≤ length rs
+pub few : (b : ℕ) (rs : List Request) → for_bank b rs ≤ length rs
 few b [] = omega arith
 few b (r ∷ rs) = by (eqb r.bank b) (few b rs)
   where
-    by : (e : Bool) → forBank b rs ≤ length rs → cond e (suc (forBank b rs)) (forBank b rs) ≤ suc (length rs)
+    by : (e : Bool) → for_bank b rs ≤ length rs → cond e (suc (for_bank b rs)) (for_bank b rs) ≤ suc (length rs)
     by true h = omega arith
     by false h = omega arith
 
-total-at : (n k i : ℕ) (rs : List Request) → i < n → get_or (totalsFrom k n rs) i 0 ≡ forBank (k + i) rs
+total-at : (n k i : ℕ) (rs : List Request) → i < n → get_or (totals_from k n rs) i 0 ≡ for_bank (k + i) rs
 total-at zero k i rs h = absurd (omega arith)
 total-at (suc n) k zero rs h =
     let at : k + 0 ≡ k = omega arith in
     rw at
 total-at (suc n) k (suc i) rs h =
     let at : suc k + i ≡ k + suc i = omega arith in
-    total-at n (suc k) i rs (omega arith) ∙ ap (λ b. forBank b rs) at
+    total-at n (suc k) i rs (omega arith) ∙ ap (λ b. for_bank b rs) at
 
 -- totals that are counted are right
-pub are-totals : (rs : List Request) → AreTotals (totalsOf rs) rs
-are-totals rs b h =
+pub are_totals : (rs : List Request) → AreTotals (totals_of rs) rs
+are_totals rs b h =
     let at : 0 + b ≡ b = omega arith in
-    total-at 8 0 b rs h ∙ ap (λ b. forBank b rs) at
+    total-at 8 0 b rs h ∙ ap (λ b. for_bank b rs) at
 
 below : (n : ℕ) (p : ℕ → Bool) → all_below n p ≡ true → (b : ℕ) → b < n → p b ≡ true
 below zero p e b h = absurd (omega arith)
@@ -54,12 +54,12 @@ below (suc n) p e b h = by (eqb b n) refl (below n p (both (all_below n p) (p n)
         less (omega arith)
 
 -- totals that are the same as those are right too
-pub same-are-totals : (ts : List ℕ) (rs : List Request) → sameTotals ts (totalsOf rs) ≡ true → AreTotals ts rs
-same-are-totals ts rs e b h =
-    eqb-true _ _ (below 8 (λ b. eqb (get_or ts b 0) (get_or (totalsOf rs) b 0)) e b h) ∙ are-totals rs b h
+pub same_are_totals : (ts : List ℕ) (rs : List Request) → same_totals ts (totals_of rs) ≡ true → AreTotals ts rs
+same_are_totals ts rs e b h =
+    eqb-true _ _ (below 8 (λ b. eqb (get_or ts b 0) (get_or (totals_of rs) b 0)) e b h) ∙ are_totals rs b h
 
 -- any totals are the same as themselves
-pub same_self : (ts : List ℕ) → sameTotals ts ts ≡ true
+pub same_self : (ts : List ℕ) → same_totals ts ts ≡ true
 same_self ts =
     let same : (n : ℕ) → eqb n n ≡ true = λ n. eq-eqb n n refl in
     simp same

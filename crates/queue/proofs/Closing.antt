@@ -9,7 +9,7 @@ use native.Mathlib.Omega.{arith}
 use borrow.Author.Tests.{lt-ltb, le-ltb}
 use lib.ListN.{length, get_or, set, take, drop, length-take, length-drop}
 use lib.Seq.{paste, paste-zero, paste-suc, length_paste_head, drop-paste, drop-cons, set_at, get_or-drop}
-use Rattle.queue.specs.Place.{without, closedUp}
+use Rattle.queue.specs.Place.{without, closed_up}
 
 module _ {A : Type 0} where
   -- the places from p to i, i not among them, have what stood one further on
@@ -56,10 +56,10 @@ module _ {A : Type 0} where
   taken-within (suc n) [] = rw (min-zero (suc n))
   taken-within (suc n) (r ∷ w) = rw (suc-min-suc n (length w), taken-within n w)
 
-  dropped-within : (n : ℕ) (w : List A) → drop (min n (length w)) w ≡ drop n w
-  dropped-within zero w = rw (zero-min (length w))
-  dropped-within (suc n) [] = rw (min-zero (suc n))
-  dropped-within (suc n) (r ∷ w) = rw (suc-min-suc n (length w), dropped-within n w)
+  dropped_within : (n : ℕ) (w : List A) → drop (min n (length w)) w ≡ drop n w
+  dropped_within zero w = rw (zero-min (length w))
+  dropped_within (suc n) [] = rw (min-zero (suc n))
+  dropped_within (suc n) (r ∷ w) = rw (suc-min-suc n (length w), dropped_within n w)
 
   -- the entry at p is left out of the first that are taken
   without-take : (p j : ℕ) (w : List A) → p < length w → without p (take (suc (p + j)) w) ≡ take p w ++ take j (drop (suc p) w)
@@ -72,12 +72,12 @@ module _ {A : Type 0} where
       rw e (ap (λ ys. x ∷ ys) (without-take p j w (omega arith)))
 
   -- a place that is none of the first n
-  pub none-leaves : (v : A) (w : List A) (p n : ℕ) → min n (length w) ≤ p → w ≡ closedUp v p n w
+  pub none-leaves : (v : A) (w : List A) (p n : ℕ) → min n (length w) ≤ p → w ≡ closed_up v p n w
   none-leaves v w p n h = rw (length-take n w, le-ltb p (min n (length w)) h)
 
   -- one that is followed by j others
   ended : (v : A) (w : List A) (p j n : ℕ) → suc (p + j) ≡ min n (length w)
-      → set (paste w p (drop (suc p) w) j) (p + j) v ≡ closedUp v p n w
+      → set (paste w p (drop (suc p) w) j) (p + j) v ≡ closed_up v p n w
   ended v w p j n all =
       let room : j ≤ length (drop (suc p) w) = rw (length-drop (suc p) w) (omega arith) in
       let before = take p w ++ take j (drop (suc p) w) in
@@ -86,14 +86,14 @@ module _ {A : Type 0} where
       let rest = drop-cons w (p + j) v (omega arith) in
       let stored = set_at before (get_or w (p + j) v) behind v (p + j) head in
       let taken : take n w ≡ take (suc (p + j)) w = sym (taken-within n w) ∙ ap (λ k. take k w) (sym all) in
-      let dropped : drop n w ≡ behind = sym (dropped-within n w) ∙ ap (λ k. drop k w) (sym all) in
+      let dropped : drop n w ≡ behind = sym (dropped_within n w) ∙ ap (λ k. drop k w) (sym all) in
       let is = lt-ltb p (length (take n w)) (rw (length-take n w) (omega arith)) in
       rw (is, rest, stored, taken, dropped, without-take p j w (omega arith))
 
   -- at the end
-  pub up-end : (v : A) (w : List A) (p n : ℕ) → p < min n (length w)
-      → set (up_to w p (min n (length w) - 1)) (min n (length w) - 1) v ≡ closedUp v p n w
-  up-end v w p n h =
+  pub up_end : (v : A) (w : List A) (p n : ℕ) → p < min n (length w)
+      → set (up_to w p (min n (length w) - 1)) (min n (length w) - 1) v ≡ closed_up v p n w
+  up_end v w p n h =
       let last = min n (length w) - 1 in
       let at : last ≡ p + (last - p) = omega arith in
       ap (λ k. set (up_to w p last) k v) at ∙ ended v w p (last - p) n (omega arith)

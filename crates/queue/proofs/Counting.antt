@@ -11,40 +11,40 @@ use lib.ListN.{length, get_or, set, take, length-take}
 use lib.Seq.{take-suc}
 use Rattle.command.specs.declared.operation.Request.{Request}
 use Rattle.queue.specs.Queue.{vacant}
-use Rattle.queue.specs.Totals.{forBank, totalsFrom, totalsOf}
-use Rattle.queue.proofs.ByBank.{for-append, few, are-totals}
+use Rattle.queue.specs.Totals.{for_bank, totals_from, totals_of}
+use Rattle.queue.proofs.ByBank.{for_append, few, are_totals}
 
 module _ (rs : List Request) (r : Request) where
   -- its bank is none of these
-  unraised : (n k : ℕ) → ((b : ℕ) → k ≤ b → b < k + n → r.bank ≡ b → ⊥) → totalsFrom k n rs ≡ totalsFrom k n (rs ++ (r ∷ []))
+  unraised : (n k : ℕ) → ((b : ℕ) → k ≤ b → b < k + n → r.bank ≡ b → ⊥) → totals_from k n rs ≡ totals_from k n (rs ++ (r ∷ []))
   unraised zero k h = refl
   unraised (suc n) k h =
-      rw (for-append k rs (r ∷ []), ne_eqb r.bank k (h k (omega arith) (omega arith)), add-zero (forBank k rs))
-      (ap (λ ts. forBank k rs ∷ ts) (unraised n (suc k) (λ b l u. h b (omega arith) (omega arith))))
+      rw (for_append k rs (r ∷ []), ne_eqb r.bank k (h k (omega arith) (omega arith)), add-zero (for_bank k rs))
+      (ap (λ ts. for_bank k rs ∷ ts) (unraised n (suc k) (λ b l u. h b (omega arith) (omega arith))))
 
   -- its bank is the one at place i
   raised : (n k i : ℕ) → r.bank ≡ k + i → i < n
-      → set (totalsFrom k n rs) i (get_or (totalsFrom k n rs) i 0 + 1) ≡ totalsFrom k n (rs ++ (r ∷ []))
+      → set (totals_from k n rs) i (get_or (totals_from k n rs) i 0 + 1) ≡ totals_from k n (rs ++ (r ∷ []))
   raised zero k i e h = absurd (omega arith)
   raised (suc n) k zero e h =
-      rw (for-append k rs (r ∷ []), eq-eqb r.bank k (omega arith))
-      (ap (λ ts. (forBank k rs + 1) ∷ ts) (unraised n (suc k) (λ b l u q. omega arith)))
+      rw (for_append k rs (r ∷ []), eq-eqb r.bank k (omega arith))
+      (ap (λ ts. (for_bank k rs + 1) ∷ ts) (unraised n (suc k) (λ b l u q. omega arith)))
   raised (suc n) k (suc i) e h =
-      rw (for-append k rs (r ∷ []), ne_eqb r.bank k (λ q. omega arith), add-zero (forBank k rs))
-      (ap (λ ts. forBank k rs ∷ ts) (raised n (suc k) i (omega arith) (omega arith)))
+      rw (for_append k rs (r ∷ []), ne_eqb r.bank k (λ q. omega arith), add-zero (for_bank k rs))
+      (ap (λ ts. for_bank k rs ∷ ts) (raised n (suc k) i (omega arith) (omega arith)))
 
 module _ (w : List Request) (i : ℕ) (h : i < length w) where
   -- a turn, where the bank has a total
-  pub counts-one : let r = get_or w i vacant in let ts = totalsOf (take i w) in
-      r.bank < 8 → set ts r.bank (get_or ts r.bank 0 + 1) ≡ totalsOf (take (i + 1) w)
+  pub counts-one : let r = get_or w i vacant in let ts = totals_of (take i w) in
+      r.bank < 8 → set ts r.bank (get_or ts r.bank 0 + 1) ≡ totals_of (take (i + 1) w)
   counts-one low =
       let r = get_or w i vacant in
       rw (add-one i, take-suc w i vacant h) (raised (take i w) r 8 0 r.bank (omega arith) low)
 
   -- and where it has none
-  pub counts-none : 8 ≤ (get_or w i vacant).bank → totalsOf (take i w) ≡ totalsOf (take (i + 1) w)
+  pub counts-none : 8 ≤ (get_or w i vacant).bank → totals_of (take i w) ≡ totals_of (take (i + 1) w)
   counts-none past = rw (add-one i, take-suc w i vacant h) (unraised (take i w) (get_or w i vacant) 8 0 (λ b l u q. omega arith))
 
 -- a total of the first i requests is at most i
-pub few-taken : (b i : ℕ) (w : List Request) → b < 8 → get_or (totalsOf (take i w)) b 0 ≤ i
-few-taken b i w h = rw (are-totals (take i w) b h) (omega (arith, few b (take i w), length-take i w))
+pub few-taken : (b i : ℕ) (w : List Request) → b < 8 → get_or (totals_of (take i w)) b 0 ≤ i
+few-taken b i w h = rw (are_totals (take i w) b h) (omega (arith, few b (take i w), length-take i w))

@@ -9,5 +9,5 @@ without (suc p) (x ∷ xs) = x ∷ without p xs
 
 -- of the first n the one at p has left: the others without it, the last of their places vacant, and what stands behind; where p is none of
 -- them, nothing changes
-abbrev pub closedUp : {A : Type 0} → A → ℕ → ℕ → List A → List A
-closedUp v p n xs = cond (ltb p (length (take n xs))) (without p (take n xs) ++ (v ∷ drop n xs)) xs
+abbrev pub closed_up : {A : Type 0} → A → ℕ → ℕ → List A → List A
+closed_up v p n xs = cond (ltb p (length (take n xs))) (without p (take n xs) ++ (v ∷ drop n xs)) xs

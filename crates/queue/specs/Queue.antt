@@ -1,7 +1,7 @@
 -- The requests that wait: whether they fit, and which is at a place (RULES 8.2).
 use Rattle.std.specs.Prelude.{ℕ, Bool, true, false, ◌&&◌, List, [], ◌∷◌, get_or}
 use Rattle.config.specs.declared.Timing.{Timing}
-use Rattle.writing.specs.Writing.{requestFits}
+use Rattle.writing.specs.Writing.{request_fits}
 use Rattle.command.specs.declared.operation.Request.{Request}
 
 -- a place where no request waits
@@ -11,8 +11,8 @@ vacant = record { write = false; bank = 0; row = 0; column = 0; lower = 0; upper
 -- every field of these requests is in its range
 abbrev pub all_fit : Timing → List Request → Bool
 all_fit t [] = true
-all_fit t (r ∷ rs) = requestFits t r && all_fit t rs
+all_fit t (r ∷ rs) = request_fits t r && all_fit t rs
 
 -- the request at a place; a vacant one where there is no such place
-abbrev pub requestAt : ℕ → List Request → Request
-requestAt p rs = get_or rs p vacant
+abbrev pub request_at : ℕ → List Request → Request
+request_at p rs = get_or rs p vacant

@@ -2,8 +2,8 @@
 mod totals;
 
 ghost use Rattle.std.specs.Prelude.{◌≡◌, cond, ◌-◌, min, take};
-ghost use Rattle.queue.specs.Queue.{vacant, all_fit, requestAt};
-ghost use Rattle.queue.specs.Place.{closedUp};
+ghost use Rattle.queue.specs.Queue.{vacant, all_fit, request_at};
+ghost use Rattle.queue.specs.Place.{closed_up};
 
 use basics::choose;
 use command::Request;
@@ -44,7 +44,7 @@ pub fn waiting_fit(timing: Timing, waiting: [Request; 16], count: u32) -> bool
 
 // The request at a place; a vacant one where there is no such place.
 pub fn request_at(waiting: [Request; 16], place: u32) -> Request
-    ensures { result ≡ requestAt place waiting }
+    ensures { result ≡ request_at place waiting }
 {
     if place < 16 {
         waiting[place as usize]
@@ -56,7 +56,7 @@ pub fn request_at(waiting: [Request; 16], place: u32) -> Request
 // The one at a place has left: each behind it is one place further on. The work goes by how many wait behind it. Where the place is not one
 // that is counted, none has left.
 fn closed_up(waiting: [Request; 16], count: u32, place: u32) -> [Request; 16]
-    ensures { result ≡ closedUp vacant place count waiting }
+    ensures { result ≡ closed_up vacant place count waiting }
 {
     let counted = lesser(count, 16);
     if counted <= place {
@@ -76,7 +76,7 @@ fn closed_up(waiting: [Request; 16], count: u32, place: u32) -> [Request; 16]
 
 // The requests, once the one at a place has left or none has.
 pub fn requests_left(leaves: bool, waiting: [Request; 16], count: u32, place: u32) -> [Request; 16]
-    ensures { result ≡ cond leaves (closedUp vacant place count waiting) waiting }
+    ensures { result ≡ cond leaves (closed_up vacant place count waiting) waiting }
 {
     if leaves {
         closed_up(waiting, count, place)

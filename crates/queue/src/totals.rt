@@ -1,13 +1,13 @@
 // How many requests wait for each bank.
 ghost use Rattle.std.specs.Prelude.{◌≡◌, take};
-ghost use Rattle.queue.specs.Totals.{totalsOf, sameTotals};
+ghost use Rattle.queue.specs.Totals.{totals_of, same_totals};
 
 use crate::lesser;
 use command::Request;
 
 // How many of the first so many waiting requests are for each bank. One for a bank past the eighth is in no total.
 pub fn totals_of(waiting: [Request; 16], count: u32) -> [u32; 8]
-    ensures { result ≡ totalsOf (take count waiting) }
+    ensures { result ≡ totals_of (take count waiting) }
 {
     let end = lesser(count, 16);
     let mut totals = [0; 8];
@@ -25,7 +25,7 @@ pub fn totals_of(waiting: [Request; 16], count: u32) -> [u32; 8]
 
 // The totals are the same for each of the eight banks.
 pub fn same_totals(a: [u32; 8], b: [u32; 8]) -> bool
-    ensures { result ≡ sameTotals a b }
+    ensures { result ≡ same_totals a b }
 {
     (a[0] == b[0])
         & (a[1] == b[1])

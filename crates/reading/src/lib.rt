@@ -2,9 +2,9 @@
 // the test's result.
 ghost use Rattle.std.specs.Prelude.{◌≡◌, cond};
 ghost use Rattle.command.specs.Pins.{pins};
-ghost use Rattle.reading.specs.Reading.{laneBy, accessOf, modeBy, operationOf, registerFits};
-ghost use Rattle.reading.specs.Reading.{latencyOf, burstOf, decodedOf};
-ghost use Rattle.reading.specs.Reading.{modeWrong, laneReserved, soundPair, readPair};
+ghost use Rattle.reading.specs.Reading.{lane_by, access_of, mode_by, operation_of, register_fits};
+ghost use Rattle.reading.specs.Reading.{latency_of, burst_of, decoded_of};
+ghost use Rattle.reading.specs.Reading.{mode_wrong, lane_reserved, sound_pair, read_pair};
 ghost use Rattle.reading.specs.Answers.{readOutcome};
 
 use basics::{Refusal, choose};
@@ -32,7 +32,7 @@ pub enum ReadAnswer {
 
 // The words that a lane writes, at BL 2 or at BL 4, by its VW pins; 0 is the reserved code.
 fn lane(short: bool, vw0: bool, vw1: bool) -> u32
-    ensures { result ≡ laneBy short vw0 vw1 }
+    ensures { result ≡ lane_by short vw0 vw1 }
 {
     if short {
         return if vw0 { 1 } else { 2 };
@@ -56,7 +56,7 @@ fn column(wide: bool, second: u32) -> u32
 
 // The request of a read or a write.
 fn access(timing: Timing, write: bool, first: u32, second: u32) -> Request
-    ensures { result ≡ accessOf timing write first second }
+    ensures { result ≡ access_of timing write first second }
 {
     let figures = timing.figures();
     let wide = figures.organisation == 16;
@@ -74,7 +74,7 @@ fn access(timing: Timing, write: bool, first: u32, second: u32) -> Request
 }
 
 fn mode(extended: bool, second: u32) -> Operation
-    ensures { result ≡ modeBy extended second }
+    ensures { result ≡ mode_by extended second }
 {
     if extended {
         Operation::Extended(second / A1 % 64)
@@ -85,7 +85,7 @@ fn mode(extended: bool, second: u32) -> Operation
 
 // The operation of a pair.
 fn operation(timing: Timing, pair: Pair) -> Operation
-    ensures { result ≡ operationOf timing pair.first pair.second }
+    ensures { result ≡ operation_of timing pair.first pair.second }
 {
     let first = pair.first;
     let second = pair.second;
@@ -103,7 +103,7 @@ fn operation(timing: Timing, pair: Pair) -> Operation
 
 // CL for a read, WL for a write, and 0 for the others (RULES 3.6).
 fn latency(timing: Timing, pair: Pair) -> Clocks
-    ensures { result.0 ≡ latencyOf timing (operationOf timing pair.first pair.second) }
+    ensures { result.0 ≡ latency_of timing (operation_of timing pair.first pair.second) }
 {
     let figures = timing.figures();
     let write = !high(pair.first, FN);
@@ -112,7 +112,7 @@ fn latency(timing: Timing, pair: Pair) -> Clocks
 
 // BL / 2 for a read or write, whatever its lanes write, and 0 for the others (RULES 3.6).
 pub fn burst(timing: Timing, pair: Pair) -> Clocks
-    ensures { result.0 ≡ burstOf timing (operationOf timing pair.first pair.second) }
+    ensures { result.0 ≡ burst_of timing (operation_of timing pair.first pair.second) }
 {
     let figures = timing.figures();
     Clocks(kept(high(pair.second, CS), figures.bl / 2))
@@ -120,7 +120,7 @@ pub fn burst(timing: Timing, pair: Pair) -> Clocks
 
 // The operation of a pair with the clocks of its data.
 fn decode(timing: Timing, pair: Pair) -> Decoded
-    ensures { result ≡ decodedOf timing (operationOf timing pair.first pair.second) }
+    ensures { result ≡ decoded_of timing (operation_of timing pair.first pair.second) }
 {
     Decoded {
         operation: operation(timing, pair),
@@ -130,7 +130,7 @@ fn decode(timing: Timing, pair: Pair) -> Decoded
 }
 
 fn register_fits(extended: bool, timing: Timing, second: u32) -> bool
-    ensures { result ≡ registerFits extended timing second }
+    ensures { result ≡ register_fits extended timing second }
 {
     let figures = timing.figures();
     if extended {
@@ -142,7 +142,7 @@ fn register_fits(extended: bool, timing: Timing, second: u32) -> bool
 
 // Rule 4 (RULES 4.4): the pair is a mode, and its MRS has a wrong field.
 pub fn mode_wrong(timing: Timing, first: u32, second: u32) -> bool
-    ensures { result ≡ modeWrong timing first second }
+    ensures { result ≡ mode_wrong timing first second }
 {
     let register = register_fits(high(second, BA0), timing, second);
     (high(first, FN) & !high(second, CS))
@@ -151,7 +151,7 @@ pub fn mode_wrong(timing: Timing, first: u32, second: u32) -> bool
 
 // Rule 5 (RULES 4.5): the pair is a write, and its LAL has a reserved lane.
 pub fn lane_reserved(timing: Timing, first: u32, second: u32) -> bool
-    ensures { result ≡ laneReserved timing first second }
+    ensures { result ≡ lane_reserved timing first second }
 {
     let figures = timing.figures();
     let lower = !high(second, BA2) & !high(second, A13);
@@ -161,7 +161,7 @@ pub fn lane_reserved(timing: Timing, first: u32, second: u32) -> bool
 }
 
 fn sound_pair(timing: Timing, first: u32, second: u32) -> bool
-    ensures { result ≡ soundPair timing first second }
+    ensures { result ≡ sound_pair timing first second }
 {
     let wrong = mode_wrong(timing, first, second);
     let reserved = lane_reserved(timing, first, second);
@@ -174,7 +174,7 @@ fn sound_pair(timing: Timing, first: u32, second: u32) -> bool
 
 // Reads a pair: the configuration's refusals, then 28 for words that are no sound pair (RULES 3.4).
 pub fn read_pair(config: Config, pair: Pair) -> ReadAnswer
-    ensures { readOutcome result ≡ readPair config pair }
+    ensures { readOutcome result ≡ read_pair config pair }
 {
     match config.timing() {
         TimingAnswer::Refused(why) => ReadAnswer::Refused(why),

@@ -11,11 +11,11 @@ use lib.ListN.{length, get_or}
 use lib.Dec.{leb, ltb, eqb}
 use Rattle.config.specs.declared.Timing.{Timing}
 use Rattle.command.specs.Pins.{high}
-use Rattle.command.specs.Pairs.{selected, lal, isRead, isWrite, isMode, isRefresh}
-use Rattle.command.specs.Address.{bankOf}
-use Rattle.reading.specs.Reading.{registerFits}
-use Rattle.rules.specs.History.{ClosedPair, Phase, pair, between, idle, poweredDown, exiting, Past}
-use Rattle.rules.specs.Rules.{Rule, wasRead, wasWrite, wasAccess, wasMode, wasRefresh, earlier, closings, tooSoonToPowerDown, atClosing}
+use Rattle.command.specs.Pairs.{selected, lal, is_read, is_write, is_mode, is_refresh}
+use Rattle.command.specs.Address.{bank_of}
+use Rattle.reading.specs.Reading.{register_fits}
+use Rattle.rules.specs.History.{ClosedPair, Phase, pair, between, idle, powered_down, exiting, Past}
+use Rattle.rules.specs.Rules.{Rule, was_read, was_write, was_access, was_mode, was_refresh, earlier, closings, too_soon_to_power_down, at_closing}
 use Rattle.rules.specs.Rules.{rule2, rule3, rule4, rule5, rule6, rule7, rule8, rule9, rule10, rule11, rule12}
 use Rattle.relaxed.specs.Dependence.{Every, Suffices, dependences}
 
@@ -48,15 +48,15 @@ same : {x y : Bool} → y ≡ x → Fails x y
 same q e = q ∙ e
 
 -- of every earlier pair
-any-earlier : {f g : ClosedPair → Bool} (ps : List ClosedPair) → ((p : ClosedPair) → Fails (f p) (g p))
+any_earlier : {f g : ClosedPair → Bool} (ps : List ClosedPair) → ((p : ClosedPair) → Fails (f p) (g p))
     → Fails (earlier f ps) (earlier g ps)
-any-earlier [] h = λ e. refl
-any-earlier (p ∷ ps) h = beside _ (h p) (any-earlier ps h)
+any_earlier [] h = λ e. refl
+any_earlier (p ∷ ps) h = beside _ (h p) (any_earlier ps h)
 
 -- a spacing from every earlier pair with a property, from its first word or from its LAL
 module _ (was : ClosedPair → Bool) (k : ℕ) (ps : List ClosedPair) {m n : ℕ} (h : n ≤ m) where
   since : (from : ClosedPair → ℕ) → Fails (earlier (λ p. was p && ltb (k - from p) m) ps) (earlier (λ p. was p && ltb (k - from p) n) ps)
-  since from = any-earlier ps (λ p. guarded (was p) (order (k - from p) m (k - from p) n (λ l. omega arith)))
+  since from = any_earlier ps (λ p. guarded (was p) (order (k - from p) m (k - from p) n (λ l. omega arith)))
 
   from_start : Fails (earlier (λ p. was p && ltb (k - p.start) m) ps) (earlier (λ p. was p && ltb (k - p.start) n) ps)
   from_start = since (λ p. p.start)
@@ -71,10 +71,10 @@ meeting o p = record { clock = p.clock; phase = o; pairs = p.pairs }
 module _ (s t : Timing) where
   -- a rule that is judged at closing words alone
   closing : (rule : Timing → List ClosedPair → ℕ → ℕ → ℕ → Bool)
-      → ((ps : List ClosedPair) (u first w : ℕ) → Fails (rule s ps u first w) (rule t ps u first w)) → Follows (atClosing rule) s t
+      → ((ps : List ClosedPair) (u first w : ℕ) → Fails (rule s ps u first w) (rule t ps u first w)) → Follows (at_closing rule) s t
   closing rule h p w = by p.phase
     where
-      by : (o : Phase) → Fails (atClosing rule s (meeting o p) w) (atClosing rule t (meeting o p) w)
+      by : (o : Phase) → Fails (at_closing rule s (meeting o p) w) (at_closing rule t (meeting o p) w)
       by (pair first) = h p.pairs (p.clock - 1) first w
       by (between r) = λ e. refl
 
@@ -83,86 +83,86 @@ module _ (s t : Timing) where
     read-data = omega arith
 
     -- rule 2
-    too-soon : t.rsc ≤ s.rsc → t.refc ≤ s.refc → (k : ℕ) (ps : List ClosedPair)
-        → Fails (tooSoonToPowerDown s ps k) (tooSoonToPowerDown t ps k)
-    too-soon rsc refc k ps =
+    too_soon : t.rsc ≤ s.rsc → t.refc ≤ s.refc → (k : ℕ) (ps : List ClosedPair)
+        → Fails (too_soon_to_power_down s ps k) (too_soon_to_power_down t ps k)
+    too_soon rsc refc k ps =
         let write : t.wl + 2 ≤ s.wl + 2 = omega arith in
         beside _
         (beside _
         (beside _
-        (beside _ (from_start wasAccess k ps rc) (from_start wasMode k ps rsc))
-        (from_start wasRefresh k ps refc))
-        (from-lal wasRead k ps read-data))
-        (from-lal wasWrite k ps write)
+        (beside _ (from_start was_access k ps rc) (from_start was_mode k ps rsc))
+        (from_start was_refresh k ps refc))
+        (from-lal was_read k ps read-data))
+        (from-lal was_write k ps write)
 
     low : t.rsc ≤ s.rsc → t.refc ≤ s.refc → Follows rule2 s t
     low rsc refc p w = by p.phase
       where
         by : (o : Phase) → Fails (rule2 s (meeting o p) w) (rule2 t (meeting o p) w)
         by (pair first) = λ e. e
-        by (between idle) = guarded (not (high 19 w)) (beside (selected w) (λ e. e) (too-soon rsc refc p.clock p.pairs))
-        by (between poweredDown) = λ e. e
+        by (between idle) = guarded (not (high 19 w)) (beside (selected w) (λ e. e) (too_soon rsc refc p.clock p.pairs))
+        by (between powered_down) = λ e. e
         by (between exiting) = λ e. e
 
     -- rule 11
-    busy : Follows (atClosing rule11) s t
+    busy : Follows (at_closing rule11) s t
     busy =
         let write : t.wl + t.bl / 2 ≤ s.wl + s.bl / 2 = omega arith in
         closing rule11
         (λ ps u first w. beside _
-        (beside _ (guarded (not (lal w)) (from_start wasAccess u ps rc)) (guarded (isMode first w) (from-lal wasRead u ps read-data)))
-        (guarded (isMode first w) (from-lal wasWrite u ps write)))
+        (beside _ (guarded (not (lal w)) (from_start was_access u ps rc)) (guarded (is_mode first w) (from-lal was_read u ps read-data)))
+        (guarded (is_mode first w) (from-lal was_write u ps write)))
 
   -- rule 3
   overdue : s.refi ≤ t.refi → Follows rule3 s t
   overdue h p w =
-      let refs = closings wasRefresh p.pairs in
+      let refs = closings was_refresh p.pairs in
       let m = min (length refs) 8 in
       let x = p.clock - get_or refs (m - 1) 0 in
       let q = mul-le-mul_left m h in
       guarded (leb 1 m) (order (m * s.refi) x (m * t.refi) x (λ l. omega arith))
 
   -- rule 4, by what an MRS wants of its register
-  register : t.cl ≡ s.cl → t.bl ≡ s.bl → (b : Bool) (w : ℕ) → registerFits b t w ≡ registerFits b s w
+  register : t.cl ≡ s.cl → t.bl ≡ s.bl → (b : Bool) (w : ℕ) → register_fits b t w ≡ register_fits b s w
   register cl bl false w = rw (cl, bl)
   register cl bl true w = refl
 
-  wrong-fields : t.cl ≡ s.cl → t.bl ≡ s.bl → Follows (atClosing rule4) s t
-  wrong-fields cl bl = closing rule4 (λ ps u first w. same (rw (register cl bl (high 14 w) w)))
+  wrong_fields : t.cl ≡ s.cl → t.bl ≡ s.bl → Follows (at_closing rule4) s t
+  wrong_fields cl bl = closing rule4 (λ ps u first w. same (rw (register cl bl (high 14 w) w)))
 
   -- rule 5
-  reserved-lane : t.bl ≡ s.bl → t.organisation ≡ s.organisation → Follows (atClosing rule5) s t
+  reserved-lane : t.bl ≡ s.bl → t.organisation ≡ s.organisation → Follows (at_closing rule5) s t
   reserved-lane bl organisation = closing rule5 (λ ps u first w. same (rw (bl, organisation)))
 
   -- rule 7
-  same-bank : t.four ≡ s.four → t.rc ≤ s.rc → Follows (atClosing rule7) s t
+  same-bank : t.four ≡ s.four → t.rc ≤ s.rc → Follows (at_closing rule7) s t
   same-bank four rc =
       closing rule7
       (λ ps u first w. rw (four)
-      (guarded (lal w) (from_start (λ p. wasAccess p && eqb (bankOf s.four p.first) (bankOf s.four first)) u ps rc)))
+      (guarded (lal w) (from_start (λ p. was_access p && eqb (bank_of s.four p.first) (bank_of s.four first)) u ps rc)))
 
   -- rule 8
-  too-close : t.rbd ≤ s.rbd → t.rwd ≤ s.rwd → t.wrd ≤ s.wrd → Follows (atClosing rule8) s t
-  too-close rbd rwd wrd =
+  too_close : t.rbd ≤ s.rbd → t.rwd ≤ s.rwd → t.wrd ≤ s.wrd → Follows (at_closing rule8) s t
+  too_close rbd rwd wrd =
       closing rule8
       (λ ps u first w. beside _
-      (beside _ (guarded (lal w) (from_start wasAccess u ps rbd)) (guarded (isWrite first w) (from-lal wasRead u ps rwd)))
-      (guarded (isRead first w) (from-lal wasWrite u ps wrd)))
+      (beside _ (guarded (lal w) (from_start was_access u ps rbd)) (guarded (is_write first w) (from-lal was_read u ps rwd)))
+      (guarded (is_read first w) (from-lal was_write u ps wrd)))
 
   -- rules 9 and 10
-  after-mode : t.rsc ≤ s.rsc → Follows (atClosing rule9) s t
-  after-mode rsc = closing rule9 (λ ps u first w. from_start wasMode u ps rsc)
+  after-mode : t.rsc ≤ s.rsc → Follows (at_closing rule9) s t
+  after-mode rsc = closing rule9 (λ ps u first w. from_start was_mode u ps rsc)
 
-  after-refresh : t.refc ≤ s.refc → Follows (atClosing rule10) s t
-  after-refresh refc = closing rule10 (λ ps u first w. from_start wasRefresh u ps refc)
+  after-refresh : t.refc ≤ s.refc → Follows (at_closing rule10) s t
+  after-refresh refc = closing rule10 (λ ps u first w. from_start was_refresh u ps refc)
 
   -- rule 12
-  window : t.window ≤ s.window → Follows (atClosing rule12) s t
+  window : t.window ≤ s.window → Follows (at_closing rule12) s t
   window h =
       closing rule12
-      (λ ps u first w. let refs = closings wasRefresh ps in
+      (λ ps u first w. let refs = closings was_refresh ps in
       let x = u + 1 - get_or refs 7 0 in
-      guarded (isRefresh first w) (guarded (leb 8 (length refs)) (order x s.window x t.window (λ l. omega arith))))
+      guarded (is_refresh first w) (guarded (leb 8 (length refs)) (order x s.window x t.window (λ l. omega arith))))
 
 -- the wiring by its number of banks
 wired : (a b : Bool) → ◌≡◌ {A = ℕ} (cond a 4 8) (cond b 4 8) → a ≡ b
@@ -176,11 +176,11 @@ kept =
     (λ s t p w h e. e)
     ▸ (λ s t p w h. let n = h.1 in low s t n.0 n.1.0 n.1.1.0 n.1.1.1.0 n.1.1.1.1.0 n.1.1.1.1.1.0 p w)
     ▸ (λ s t p w h. overdue s t h.2.0 p w)
-    ▸ (λ s t p w h. wrong-fields s t h.0.0 h.0.1.0 p w)
+    ▸ (λ s t p w h. wrong_fields s t h.0.0 h.0.1.0 p w)
     ▸ (λ s t p w h. reserved-lane s t h.0.0 h.0.1.0 p w)
     ▸ (λ s t p w h. closing s t rule6 (λ ps u first w e. e) p w)
     ▸ (λ s t p w h. same-bank s t (wired t.four s.four h.0.0) h.1.0 p w)
-    ▸ (λ s t p w h. too-close s t h.1.0 h.1.1.0 h.1.1.1.0 p w)
+    ▸ (λ s t p w h. too_close s t h.1.0 h.1.1.0 h.1.1.1.0 p w)
     ▸ (λ s t p w h. after-mode s t h.1.0 p w)
     ▸ (λ s t p w h. after-refresh s t h.1.0 p w)
     ▸ (λ s t p w h. let n = h.1 in busy s t n.0 n.1.0 n.1.1.0 n.1.1.1.0 p w)

@@ -11,14 +11,14 @@ use Rattle.rules.specs.Verdict.{Judgement, accepted, breach}
 use Rattle.checker.specs.Steps.{step_of}
 use Rattle.checker.specs.Refinement.{follow, stepping}
 use Rattle.checker.specs.declared.checker.Checker.{Checker}
-use Rattle.walks.specs.Walk.{Reached, ended, ofWord, unless, walking, stopOf}
-use Rattle.walks.proofs.Walk.{keeps-step, move-case}
+use Rattle.walks.specs.Walk.{Reached, ended, of_word, unless, walking, stop_of}
+use Rattle.walks.proofs.Walk.{keeps_step, move_case}
 
 -- two answers that are one
 distinct : {P : Type 0} → ◌≡◌ {A = ℕ} 0 1 → P
 distinct e = absurd (omega arith)
 
-pub stop-accepted : (j : Judgement) → stopOf j ≡ ended → j ≡ accepted
+pub stop-accepted : (j : Judgement) → stop_of j ≡ ended → j ≡ accepted
 stop-accepted accepted e = refl
 stop-accepted (breach k n) e = distinct (cc)
 
@@ -32,12 +32,12 @@ pub step-limit : (s : Checker) (words : List ℕ) → s.clock ≤ 16777216 → s
 step-limit s [] h e = omega arith
 step-limit s (w ∷ ws) h e =
     let f = followed (step_of s w).outcome (stepping (step_of s w).after ws) e in
-    let k = (keeps-step s w).passes f.0 in
-    let l = (keeps-step s w).limit f.0 in
+    let k = (keeps_step s w).passes f.0 in
+    let l = (keeps_step s w).limit f.0 in
     let ih = step-limit (step_of s w).after ws (omega arith) f.1 in
     omega arith
 
-went_on : (o : Outcome Judgement) (rest : Outcome Reached) → unless (ofWord o) rest ≡ value ended
+went_on : (o : Outcome Judgement) (rest : Outcome Reached) → unless (of_word o) rest ≡ value ended
     → (o ≡ value accepted) × (rest ≡ value ended)
 went_on (value accepted) rest e = (refl, e)
 went_on (value (breach k n)) rest e = distinct (cc)
@@ -47,13 +47,13 @@ pub walk-limit : (words : List ℕ) (n : ℕ) (s : Checker) → s.clock ≤ leng
     → (length words ≤ 16777216) × (length words < n + s.clock)
 walk-limit words zero s h m = λ e. distinct (cc)
 walk-limit words (suc n) s h m =
-    move-case
+    move_case
     (λ r. unless r.outcome (walking n r.after words) ≡ value ended → (length words ≤ 16777216) × (length words < suc n + s.clock))
     s words
     (λ l e. let w = get_or words s.clock 0 in
     let f = went_on (step_of s w).outcome (walking n (step_of s w).after words) e in
-    let k = (keeps-step s w).passes f.0 in
-    let b = (keeps-step s w).limit f.0 in
+    let k = (keeps_step s w).passes f.0 in
+    let b = (keeps_step s w).limit f.0 in
     let (i, j) = walk-limit words n (step_of s w).after (omega arith) (omega arith) f.1 in
     (i, omega arith))
     (λ l e. (omega arith, omega arith))

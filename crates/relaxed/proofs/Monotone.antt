@@ -7,8 +7,8 @@ use mathlib.Core.List.{List, [], ◌∷◌, map}
 use native.Mathlib.Omega.{arith}
 use Rattle.config.specs.declared.Timing.{Timing}
 use Rattle.rules.specs.History.{Past, nothing, extend}
-use Rattle.rules.specs.Rules.{Rule, rules, lowest, breachAt}
-use Rattle.rules.specs.Verdict.{Judgement, accepted, lead, judgeFrom}
+use Rattle.rules.specs.Rules.{Rule, rules, lowest, breach_at}
+use Rattle.rules.specs.Verdict.{Judgement, accepted, lead, judge_from}
 use Rattle.relaxed.specs.Dependence.{Dependence, dependences, Every, NoStricter, Suffices, Witness, Monotone}
 use Rattle.relaxed.proofs.Kept.{kept}
 
@@ -44,37 +44,37 @@ module _ (t : Timing) where
   -- as a witness, for the words behind a past
   record From (p : Past) (ws : List ℕ) (d : Dependence) : Type 0 where
     timing : Timing
-    no-stricter : NoStricter d timing t
-    passes : judgeFrom timing p ws ≡ accepted
+    no_stricter : NoStricter d timing t
+    passes : judge_from timing p ws ≡ accepted
 
   module _ (p : Past) (w : ℕ) (ws : List ℕ) where
     abbrev rest : Timing → Judgement
-    rest s = judgeFrom s (extend p w) ws
+    rest s = judge_from s (extend p w) ws
 
     after-word : (d : Dependence) → From p (w ∷ ws) d → From (extend p w) ws d
     after-word d x =
         let s = x.timing in
-        record { timing = s; no-stricter = x.no-stricter; passes = (led (breachAt s p w) p.clock (rest s) x.passes).1 }
+        record { timing = s; no_stricter = x.no_stricter; passes = (led (breach_at s p w) p.clock (rest s) x.passes).1 }
 
     -- each rule of some rows is kept, since all are by the timing of its row
-    each-kept : (ds : List Dependence) → Every Suffices ds
-        → ((s : Timing) → breachAt s p w ≡ 0 → Every (λ d. d.rule s p w ≡ false) ds)
+    each_kept : (ds : List Dependence) → Every Suffices ds
+        → ((s : Timing) → breach_at s p w ≡ 0 → Every (λ d. d.rule s p w ≡ false) ds)
         → Every (From p (w ∷ ws)) ds → Every (λ d. d.rule t p w ≡ false) ds
-    each-kept [] k h x = tt
-    each-kept (d ∷ ds) k h x =
+    each_kept [] k h x = tt
+    each_kept (d ∷ ds) k h x =
         let s = x.0.timing in
-        let e = (led (breachAt s p w) p.clock (rest s) x.0.passes).0 in
-        (k.0 s t p w x.0.no-stricter (h s e).0, each-kept ds k.1 (λ s e. (h s e).1) x.1)
+        let e = (led (breach_at s p w) p.clock (rest s) x.0.passes).0 in
+        (k.0 s t p w x.0.no_stricter (h s e).0, each_kept ds k.1 (λ s e. (h s e).1) x.1)
 
-  passes-from : (p : Past) (ws : List ℕ) → Every (From p ws) dependences → judgeFrom t p ws ≡ accepted
+  passes-from : (p : Past) (ws : List ℕ) → Every (From p ws) dependences → judge_from t p ws ≡ accepted
   passes-from p [] x = refl
   passes-from p (w ∷ ws) x =
-      let all = each-kept p w ws dependences kept (λ s e. all-kept s p w 0 rules e) x in
+      let all = each_kept p w ws dependences kept (λ s e. all-kept s p w 0 rules e) x in
       ap (λ n. lead n p.clock (rest p w ws t)) (none_found t p w 1 rules all)
       ∙ passes-from (extend p w) ws (every_map dependences (after-word p w ws) x)
 
   from_nothing : (words : List ℕ) (d : Dependence) → Witness t words d → From nothing words d
-  from_nothing words d x = record { timing = x.timing; no-stricter = x.no-stricter; passes = x.passes }
+  from_nothing words d x = record { timing = x.timing; no_stricter = x.no_stricter; passes = x.passes }
 
 pub monotone : Monotone
 monotone =

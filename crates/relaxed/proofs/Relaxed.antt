@@ -12,10 +12,10 @@ use Rattle.config.specs.Configuration.{derived}
 use Rattle.config.specs.declared.Config.{Config}
 use Rattle.config.specs.declared.Timing.{Timing}
 use Rattle.words.specs.Words.{words_of}
-use Rattle.rules.specs.Verdict.{accepted, judge, checkOf, checkBytesOf}
+use Rattle.rules.specs.Verdict.{accepted, judge, check_of, check_bytes_of}
 use Rattle.checker.specs.Steps.{fresh}
 use Rattle.checker.specs.Refinement.{stepping}
-use Rattle.walks.specs.Walk.{ended, walking, stopOf}
+use Rattle.walks.specs.Walk.{ended, walking, stop_of}
 use Rattle.basics.proofs.Outcomes.{require-value}
 use Rattle.config.proofs.Accepted.{behind}
 use Rattle.checker.proofs.Refinement.{refinement}
@@ -40,12 +40,12 @@ module _ (a b : Config) (r : Relaxed a b) where
       (le_of_eq (ap (λ n. 3200000 / n + 1) r.period))
       words e e
 
-  check : (words : List ℕ) → checkOf a words ≡ value accepted → checkOf b words ≡ value accepted
+  check : (words : List ℕ) → check_of a words ≡ value accepted → check_of b words ≡ value accepted
   check words e =
       let h = require-value (leb (length words) 16777216) _ _ (behind a _ e).1 in
       rw (r.second-accepted, h.0) (ap value (judged words (cc h.1)))
 
-  check-bytes : (bytes : List ℕ) → checkBytesOf a bytes ≡ value accepted → checkBytesOf b bytes ≡ value accepted
+  check-bytes : (bytes : List ℕ) → check_bytes_of a bytes ≡ value accepted → check_bytes_of b bytes ≡ value accepted
   check-bytes bytes e =
       let h = require-value (eqb (length bytes % 4) 0) _ _ (behind a _ e).1 in
       let k = require-value (leb (length bytes / 4) 16777216) _ _ h.1 in
@@ -64,10 +64,10 @@ module _ (a b : Config) (r : Relaxed a b) where
       let m : length words < n = omega arith in
       let q = walk.verdict a s words n r.first-accepted l m in
       walk.verdict b t words n r.second-accepted l m
-      ∙ ap (λ j. value (stopOf j)) (judged words (stop-accepted (judge s words) (cc (sym q ∙ e))))
+      ∙ ap (λ j. value (stop_of j)) (judged words (stop-accepted (judge s words) (cc (sym q ∙ e))))
 
-pub still-accepted : StillAccepted
-still-accepted =
+pub still_accepted : StillAccepted
+still_accepted =
     record {
       some =
           record {

@@ -7,7 +7,7 @@ use mathlib.Core.Bool.{cond}
 use mathlib.Core.List.{List}
 use native.Mathlib.Nat.{le_of_eq}
 use lib.Dec.{eqb}
-use Rattle.config.specs.Configuration.{rcOf, derived}
+use Rattle.config.specs.Configuration.{rc_of, derived}
 use Rattle.config.specs.declared.Config.{Config}
 use Rattle.config.specs.declared.Timing.{Timing}
 use Rattle.rules.specs.Verdict.{accepted, judge}
@@ -26,7 +26,7 @@ module _ (a b : Config) (cl : b.cl ≡ a.cl) (bl : b.bl ≡ a.bl) (organisation 
 
   -- RC and WL follow from CL
   rc : t.rc ≤ s.rc
-  rc = le_of_eq (ap rcOf cl)
+  rc = le_of_eq (ap rc_of cl)
 
   same-cl : t.cl ≤ s.cl
   same-cl = le_of_eq cl
@@ -38,7 +38,7 @@ module _ (a b : Config) (cl : b.cl ≡ a.cl) (bl : b.bl ≡ a.bl) (organisation 
   wl = le_of_eq (ap (λ n. n - 1) cl)
 
   witness : {words : List ℕ} {d : Dependence} (u : Timing) → judge u words ≡ accepted → NoStricter d u t → Witness t words d
-  witness u e n = record { timing = u; no-stricter = n; passes = e }
+  witness u e n = record { timing = u; no_stricter = n; passes = e }
 
   pub passes : s.refi ≤ t.refi → (u : Timing) → t.window ≤ u.window → (words : List ℕ)
       → judge s words ≡ accepted → judge u words ≡ accepted → judge t words ≡ accepted

@@ -3,7 +3,7 @@
 use Rattle.std.specs.Prelude.{ℕ, ◌≤◌, ◌≡◌, false, cond, List, [], ◌∷◌, map}
 use Rattle.config.specs.declared.Timing.{Timing}
 use Rattle.rules.specs.History.{Past}
-use Rattle.rules.specs.Rules.{Rule, atClosing, rules}
+use Rattle.rules.specs.Rules.{Rule, at_closing, rules}
 use Rattle.rules.specs.Rules.{rule1, rule2, rule3, rule4, rule5, rule6, rule7, rule8, rule9, rule10, rule11, rule12, rule13}
 use Rattle.rules.specs.Verdict.{accepted, judge}
 
@@ -44,12 +44,12 @@ of W t = t.window
 pub record Dependence : Type 0 where
   pub rule : Rule
   pub equal : List Figure
-  pub noLarger : List Figure
-  pub noSmaller : List Figure
+  pub no_larger : List Figure
+  pub no_smaller : List Figure
 
 -- a row with these
 abbrev pub row : Rule → List Figure → List Figure → List Figure → Dependence
-row rule equal noLarger noSmaller = record { rule = rule; equal = equal; noLarger = noLarger; noSmaller = noSmaller }
+row rule equal no_larger no_smaller = record { rule = rule; equal = equal; no_larger = no_larger; no_smaller = no_smaller }
 
 -- the table, in the order of the rules
 abbrev pub dependences : List Dependence
@@ -57,15 +57,15 @@ dependences =
     row rule1 [] [] []
     ∷ row rule2 [] (RC ∷ CL ∷ BL ∷ WL ∷ RSC ∷ REFC ∷ []) []
     ∷ row rule3 [] [] (D ∷ [])
-    ∷ row (atClosing rule4) (CL ∷ BL ∷ []) [] []
-    ∷ row (atClosing rule5) (BL ∷ organisation ∷ []) [] []
-    ∷ row (atClosing rule6) [] [] []
-    ∷ row (atClosing rule7) (banks ∷ []) (RC ∷ []) []
-    ∷ row (atClosing rule8) [] (RBD ∷ RWD ∷ WRD ∷ []) []
-    ∷ row (atClosing rule9) [] (RSC ∷ []) []
-    ∷ row (atClosing rule10) [] (REFC ∷ []) []
-    ∷ row (atClosing rule11) [] (RC ∷ CL ∷ BL ∷ WL ∷ []) []
-    ∷ row (atClosing rule12) [] (W ∷ []) []
+    ∷ row (at_closing rule4) (CL ∷ BL ∷ []) [] []
+    ∷ row (at_closing rule5) (BL ∷ organisation ∷ []) [] []
+    ∷ row (at_closing rule6) [] [] []
+    ∷ row (at_closing rule7) (banks ∷ []) (RC ∷ []) []
+    ∷ row (at_closing rule8) [] (RBD ∷ RWD ∷ WRD ∷ []) []
+    ∷ row (at_closing rule9) [] (RSC ∷ []) []
+    ∷ row (at_closing rule10) [] (REFC ∷ []) []
+    ∷ row (at_closing rule11) [] (RC ∷ CL ∷ BL ∷ WL ∷ []) []
+    ∷ row (at_closing rule12) [] (W ∷ []) []
     ∷ row rule13 [] [] []
     ∷ []
 
@@ -78,8 +78,8 @@ Every P (x ∷ xs) = P x × Every P xs
 abbrev pub NoStricter : Dependence → Timing → Timing → Type 0
 NoStricter d s t =
     Every (λ f. of f t ≡ of f s) d.equal
-    × Every (λ f. of f t ≤ of f s) d.noLarger
-    × Every (λ f. of f s ≤ of f t) d.noSmaller
+    × Every (λ f. of f t ≤ of f s) d.no_larger
+    × Every (λ f. of f s ≤ of f t) d.no_smaller
 
 -- a row says enough: behind any past and at any word, its rule is kept on t where it is kept on s, if t is no stricter to it
 abbrev pub Suffices : Dependence → Type 0
@@ -88,7 +88,7 @@ Suffices d = (s t : Timing) (p : Past) (w : ℕ) → NoStricter d s t → d.rule
 -- some timing on which the words are accepted, and than which t is no stricter to the rule of a row
 pub record Witness (t : Timing) (words : List ℕ) (d : Dependence) : Type 0 where
   pub timing : Timing
-  pub no-stricter : NoStricter d timing t
+  pub no_stricter : NoStricter d timing t
   pub passes : judge timing words ≡ accepted
 
 -- the theorem

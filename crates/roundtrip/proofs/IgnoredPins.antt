@@ -12,10 +12,10 @@ use lib.Pow.{shr-shr}
 use Rattle.config.specs.Configuration.{derived}
 use Rattle.config.specs.declared.Config.{Config}
 use Rattle.config.specs.declared.Timing.{Timing}
-use Rattle.command.specs.Pins.{pins, put, high, strayBit}
-use Rattle.command.specs.Pairs.{rda, lal, isMode, isWrite}
-use Rattle.reading.specs.Reading.{registerFits, modeFits, reserved, modeWrong, laneReserved, soundPair}
-use Rattle.roundtrip.specs.Ignored.{Pins, only, firstPins, secondPins}
+use Rattle.command.specs.Pins.{pins, put, high, stray_bit}
+use Rattle.command.specs.Pairs.{rda, lal, is_mode, is_write}
+use Rattle.reading.specs.Reading.{register_fits, mode_fits, reserved, mode_wrong, lane_reserved, sound_pair}
+use Rattle.roundtrip.specs.Ignored.{Pins, only, first_pins, second_pins}
 
 -- a word of any numbers on these pins, of which `only` is the one that has them from a word
 abbrev sum : List Pins → (ℕ → ℕ → ℕ) → ℕ
@@ -30,7 +30,7 @@ of_word (p ∷ ps) w = rw (of_word ps w)
 record Word (x : ℕ → ℕ → ℕ) (v : ℕ) : Type 0 where
   cs : pins 18 1 v ≡ x 18 1 % 2
   pd : pins 19 1 v ≡ x 19 1 % 2
-  stray : strayBit v ≡ false
+  stray : stray_bit v ≡ false
 
 record First (x : ℕ → ℕ → ℕ) (v : ℕ) : Type 0 where
   word : Word x v
@@ -52,33 +52,33 @@ record Lanes (x : ℕ → ℕ → ℕ) (v : ℕ) : Type 0 where
   vw1 : pins 11 1 v ≡ x 11 1 % 2
 
 module _ (x : ℕ → ℕ → ℕ) where
-  first : (l : Bool) → First x (sum (firstPins l) x)
+  first : (l : Bool) → First x (sum (first_pins l) x)
   first true = omega (arith, lt-leb)
   first false = omega (arith, lt-leb)
 
-  read : (c : Config) (wide : Bool) → eqb c.organisation 16 ≡ wide → Word x (sum (secondPins true true c) x)
+  read : (c : Config) (wide : Bool) → eqb c.organisation 16 ≡ wide → Word x (sum (second_pins true true c) x)
   read c true w = rw w (omega (arith, lt-leb))
   read c false w = rw w (omega (arith, lt-leb))
 
-  mode : (c : Config) → Mode x (sum (secondPins true false c) x)
+  mode : (c : Config) → Mode x (sum (second_pins true false c) x)
   mode c = omega (arith, lt-leb)
 
-  refresh : (c : Config) → Word x (sum (secondPins false false c) x)
+  refresh : (c : Config) → Word x (sum (second_pins false false c) x)
   refresh c = omega (arith, lt-leb)
 
-  write-2 : (c : Config) (wide : Bool) → eqb c.organisation 16 ≡ wide → c.bl ≡ 2 → Word x (sum (secondPins false true c) x)
+  write-2 : (c : Config) (wide : Bool) → eqb c.organisation 16 ≡ wide → c.bl ≡ 2 → Word x (sum (second_pins false true c) x)
   write-2 c true w b = rw (w, b) (omega (arith, lt-leb))
   write-2 c false w b = rw (w, b) (omega (arith, lt-leb))
 
-  write-8 : (c : Config) → eqb c.organisation 16 ≡ false → c.bl ≡ 4 → Lower x (sum (secondPins false true c) x)
+  write-8 : (c : Config) → eqb c.organisation 16 ≡ false → c.bl ≡ 4 → Lower x (sum (second_pins false true c) x)
   write-8 c w b = rw (w, b) (omega (arith, lt-leb))
 
-  write-16 : (c : Config) → eqb c.organisation 16 ≡ true → c.bl ≡ 4 → Lanes x (sum (secondPins false true c) x)
+  write-16 : (c : Config) → eqb c.organisation 16 ≡ true → c.bl ≡ 4 → Lanes x (sum (second_pins false true c) x)
   write-16 c w b = rw (w, b) (omega (arith, lt-leb))
 
 -- a second word v that shows the numbers of s is tested as s is: a mode's fields, and the lanes
 module _ (t : Timing) (s v : ℕ) where
-  registers : pins 0 14 v ≡ pins 0 14 s % 2 ^ 14 → (extended : Bool) → registerFits extended t v ≡ registerFits extended t s
+  registers : pins 0 14 v ≡ pins 0 14 s % 2 ^ 14 → (extended : Bool) → register_fits extended t v ≡ register_fits extended t s
   registers h false = let a : (pins 0 3 v ≡ pins 0 3 s) × (pins 4 3 v ≡ pins 4 3 s) = omega arith in rw (a.0, a.1)
   registers h true = let a : pins 0 1 v ≡ pins 0 1 s = omega arith in rw a
 
@@ -91,7 +91,7 @@ module _ (t : Timing) (s v : ℕ) where
       parts : (x y : ℕ) → x % 8 ≡ y % 8 % 8 → (x % 2 ≡ y % 2) × (x / 2 ^ 1 % 4 ≡ y / 2 ^ 1 % 4)
       parts x y e = omega arith
 
-  modes : Mode (λ n k. pins n k s) v → modeFits t v ≡ modeFits t s
+  modes : Mode (λ n k. pins n k s) v → mode_fits t v ≡ mode_fits t s
   modes h = let b = banks h.bank in rw (a7-13 h.address, b.0, b.1, registers h.address (high 14 s))
 
   lower : eqb t.organisation 16 ≡ false → Lower (λ n k. pins n k s) v → reserved t v ≡ reserved t s
@@ -100,28 +100,28 @@ module _ (t : Timing) (s v : ℕ) where
   lanes : Lanes (λ n k. pins n k s) v → reserved t v ≡ reserved t s
   lanes h = simp (h.lower.vw0, h.lower.vw1, h.vw0, h.vw1, mod-mod)
 
-module _ (c : Config) (bl : (c.bl ≡ 2) ⊎ (c.bl ≡ 4)) (f s : ℕ) (stray : (strayBit f || strayBit s) ≡ false) where
+module _ (c : Config) (bl : (c.bl ≡ 2) ⊎ (c.bl ≡ 4)) (f s : ℕ) (stray : (stray_bit f || stray_bit s) ≡ false) where
   abbrev Alike : ℕ → ℕ → Type 0
-  Alike g v = soundPair (derived c) g v ≡ soundPair (derived c) f s
+  Alike g v = sound_pair (derived c) g v ≡ sound_pair (derived c) f s
 
   alike : (g v : ℕ) → First (λ n k. pins n k f) g → Word (λ n k. pins n k s) v
-      → (isMode f s && not (modeFits (derived c) v)) ≡ modeWrong (derived c) f s
-      → (isWrite f s && reserved (derived c) v) ≡ laneReserved (derived c) f s → Alike g v
+      → (is_mode f s && not (mode_fits (derived c) v)) ≡ mode_wrong (derived c) f s
+      → (is_write f s && reserved (derived c) v) ≡ lane_reserved (derived c) f s → Alike g v
   alike g v o h m k = simp (o.word.cs, o.word.pd, o.word.stray, o.fn, h.cs, h.pd, h.stray, mod-mod, stray, m, k)
 
-  by_kind : (l r : Bool) → lal s ≡ l → rda f ≡ r → Alike (only (firstPins l) f) (only (secondPins r l c) s)
+  by_kind : (l r : Bool) → lal s ≡ l → rda f ≡ r → Alike (only (first_pins l) f) (only (second_pins r l c) s)
   by_kind true true l r = alike _ _ (first _ true) (read _ c (eqb c.organisation 16) refl) (rw (l, r)) (rw r)
   by_kind false false l r = alike _ _ (first _ false) (refresh _ c) (rw r) (rw (l, r))
   by_kind false true l r = let h = mode _ c in alike _ _ (first _ false) h.word (rw (modes (derived c) s _ h)) (rw r)
-  by_kind true false l r = rw (of_word (secondPins false true c) s) at (by-lanes (eqb c.organisation 16) refl bl)
+  by_kind true false l r = rw (of_word (second_pins false true c) s) at (by-lanes (eqb c.organisation 16) refl bl)
     where
       by-lanes : (wide : Bool) → eqb c.organisation 16 ≡ wide → (c.bl ≡ 2) ⊎ (c.bl ≡ 4)
-          → Alike (only (firstPins true) f) (sum (secondPins false true c) (λ n k. pins n k s))
+          → Alike (only (first_pins true) f) (sum (second_pins false true c) (λ n k. pins n k s))
       by-lanes wide w (inl b) = alike _ _ (first _ true) (write-2 _ c wide w b) (rw r) (rw b)
       by-lanes true w (inr b) = let h = write-16 _ c w b in
           alike _ _ (first _ true) h.lower.word (rw r) (rw (lanes (derived c) s _ h))
       by-lanes false w (inr b) = let h = write-8 _ c w b in
           alike _ _ (first _ true) h.word (rw r) (rw (lower (derived c) s _ w h))
 
-  pub ignored-low : Alike (only (firstPins (lal s)) f) (only (secondPins (rda f) (lal s) c) s)
+  pub ignored-low : Alike (only (first_pins (lal s)) f) (only (second_pins (rda f) (lal s) c) s)
   ignored-low = by_kind (lal s) (rda f) refl refl

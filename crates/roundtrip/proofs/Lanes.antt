@@ -9,7 +9,7 @@ use lib.Dec.{eqb}
 use Rattle.config.specs.declared.Timing.{Timing}
 use Rattle.config.proofs.Bounds.{both, either}
 use Rattle.reading.specs.Reading.{lane_of}
-use Rattle.writing.specs.Writing.{laneFits}
+use Rattle.writing.specs.Writing.{lane_fits}
 
 -- the levels that write n words
 abbrev pub vw0 : ℕ → Bool
@@ -25,7 +25,7 @@ pub record Lane (t : Timing) (n : ℕ) : Type 0 where
   pub back : lane_of t (vw0 n) (vw1 t n) ≡ n
   pub used : unused t (vw0 n) (vw1 t n) ≡ false
 
-lane-words : (t : Timing) (n : ℕ) → laneFits t n ≡ true → (n ≡ 1) ⊎ ((n ≡ 2) ⊎ ((t.bl ≡ 4) × (n ≡ 4)))
+lane-words : (t : Timing) (n : ℕ) → lane_fits t n ≡ true → (n ≡ 1) ⊎ ((n ≡ 2) ⊎ ((t.bl ≡ 4) × (n ≡ 4)))
 lane-words t n e = go (either (eqb n 1 || eqb n 2) (eqb t.bl 4 && eqb n 4) e)
   where
     small : (eqb n 1 ≡ true) ⊎ (eqb n 2 ≡ true) → (n ≡ 1) ⊎ ((n ≡ 2) ⊎ ((t.bl ≡ 4) × (n ≡ 4)))
@@ -38,7 +38,7 @@ lane-words t n e = go (either (eqb n 1 || eqb n 2) (eqb t.bl 4 && eqb n 4) e)
         let q = both (eqb t.bl 4) (eqb n 4) h in
         inr (inr (eqb-true t.bl 4 q.0, eqb-true n 4 q.1))
 
-pub lane : (t : Timing) → (t.bl ≡ 2) ⊎ (t.bl ≡ 4) → (n : ℕ) → laneFits t n ≡ true → Lane t n
+pub lane : (t : Timing) → (t.bl ≡ 2) ⊎ (t.bl ≡ 4) → (n : ℕ) → lane_fits t n ≡ true → Lane t n
 lane t bl n e = go bl (lane-words t n e)
   where
     go : (t.bl ≡ 2) ⊎ (t.bl ≡ 4) → (n ≡ 1) ⊎ ((n ≡ 2) ⊎ ((t.bl ≡ 4) × (n ≡ 4))) → Lane t n
@@ -50,7 +50,7 @@ lane t bl n e = go bl (lane-words t n e)
 
 -- the other way: from levels that are not reserved
 pub record Read (t : Timing) (a b : Bool) : Type 0 where
-  pub fits : laneFits t (lane_of t a b) ≡ true
+  pub fits : lane_fits t (lane_of t a b) ≡ true
   pub first : vw0 (lane_of t a b) ≡ a
   pub second : vw1 t (lane_of t a b) ≡ (eqb t.bl 4 && b)
 

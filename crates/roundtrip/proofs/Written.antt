@@ -7,18 +7,18 @@ use native.Mathlib.Nat.{mod-lt}
 use borrow.Author.Tests.{leb-true, lt-leb}
 use lib.Dec.{leb, lit<}
 use Rattle.config.proofs.Bounds.{both}
-use Rattle.command.specs.Pins.{pins, high, put, drive, strayBit}
-use Rattle.command.specs.Address.{bankOf, row_of, addressFits, addressAt}
+use Rattle.command.specs.Pins.{pins, high, put, drive, stray_bit}
+use Rattle.command.specs.Address.{bank_of, row_of, address_fits, address_at}
 use Rattle.command.proofs.Levels.{level-bound}
 use Rattle.roundtrip.proofs.Levels.{high_is, pins-split}
 
 -- RDA or WRA, with four banks (true) or eight
 pub record First (four write : Bool) (b r w : ℕ) : Type 0 where
-  pub stray : strayBit w ≡ false
+  pub stray : stray_bit w ≡ false
   pub pd : high 19 w ≡ true
   pub cs : high 18 w ≡ false
   pub fn : high 17 w ≡ not write
-  pub bank : bankOf four w ≡ b
+  pub bank : bank_of four w ≡ b
   pub row : row_of four w ≡ r
 
 -- with these numbers on BA0 to BA2 and on A0 to A13
@@ -42,13 +42,13 @@ bank-pins w h b small e = parts (pins 16 1 w) (pins 14 2 w) (mod-lt (w / 2 ^ 14)
     parts : (p q : ℕ) → q < 4 → p * 4 + q ≡ h * 4 + b → (p ≡ h) × (q ≡ b)
     parts p q l s = omega arith
 
-pub first_word : (four write : Bool) (bank row : ℕ) → addressFits four bank row ≡ true
-    → First four write bank row (2 ^ 19 + drive 17 (not write) + addressAt four bank row)
+pub first_word : (four write : Bool) (bank row : ℕ) → address_fits four bank row ≡ true
+    → First four write bank row (2 ^ 19 + drive 17 (not write) + address_at four bank row)
 first_word false write bank row e =
     let h = both (leb bank 7) (leb row 16383) e in
     let b = leb-true bank 7 h.0 in
     let r = leb-true row 16383 h.1 in
-    let same : bank * 2 ^ 14 + row ≡ addressAt false bank row = omega arith in
+    let same : bank * 2 ^ 14 + row ≡ address_at false bank row = omega arith in
     rw same at (eight-banks write bank row b r)
 first_word true write bank row e =
     let h = both (leb bank 3) (leb row 32767) e in
@@ -56,7 +56,7 @@ first_word true write bank row e =
     let r = leb-true row 32767 h.1 in
     let low = row % 2 ^ 14 in
     let top = row / 2 ^ 14 in
-    let same : (top * 4 + bank) * 2 ^ 14 + low ≡ addressAt true bank row = omega arith in
+    let same : (top * 4 + bank) * 2 ^ 14 + low ≡ address_at true bank row = omega arith in
     let f = rw same at (eight-banks write (top * 4 + bank) low (omega arith) (omega arith)) in
     let p = bank-pins _ top bank (omega arith) f.bank in
     record {
@@ -69,11 +69,11 @@ first_word true write bank row e =
     }
 
 -- LAL
-abbrev pub secondWord : ℕ → Bool → Bool → Bool → Bool → ℕ
-secondWord column v₀ v₁ u₀ u₁ = 2 ^ 19 + 2 ^ 18 + put 0 9 column + (drive 16 v₀ + drive 13 v₁) + (drive 12 u₀ + drive 11 u₁)
+abbrev pub second_word : ℕ → Bool → Bool → Bool → Bool → ℕ
+second_word column v₀ v₁ u₀ u₁ = 2 ^ 19 + 2 ^ 18 + put 0 9 column + (drive 16 v₀ + drive 13 v₁) + (drive 12 u₀ + drive 11 u₁)
 
 pub record Second (column : ℕ) (v₀ v₁ u₀ u₁ : Bool) (w : ℕ) : Type 0 where
-  pub stray : strayBit w ≡ false
+  pub stray : stray_bit w ≡ false
   pub pd : high 19 w ≡ true
   pub cs : high 18 w ≡ true
   pub lower₀ : high 16 w ≡ v₀
@@ -83,13 +83,13 @@ pub record Second (column : ℕ) (v₀ v₁ u₀ u₁ : Bool) (w : ℕ) : Type 0
   pub wide : column ≤ 255 → pins 0 8 w ≡ column
   pub narrow : pins 0 9 w ≡ column
 
-pub second_word : (column : ℕ) (v₀ v₁ u₀ u₁ : Bool) → column ≤ 511 → Second column v₀ v₁ u₀ u₁ (secondWord column v₀ v₁ u₀ u₁)
-second_word column v₀ v₁ u₀ u₁ h =
+pub second_word_lem : (column : ℕ) (v₀ v₁ u₀ u₁ : Bool) → column ≤ 511 → Second column v₀ v₁ u₀ u₁ (second_word column v₀ v₁ u₀ u₁)
+second_word_lem column v₀ v₁ u₀ u₁ h =
     let a = level-bound v₀ in
     let b = level-bound v₁ in
     let c = level-bound u₀ in
     let d = level-bound u₁ in
-    let w = secondWord column v₀ v₁ u₀ u₁ in
+    let w = second_word column v₀ v₁ u₀ u₁ in
     record {
       stray = lt-leb (2 ^ 20) w (omega arith);
       pd = high_is 19 w true (omega arith);

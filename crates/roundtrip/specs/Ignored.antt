@@ -24,33 +24,33 @@ abbrev pub always : List Pins
 always = row 18 1 ∷ row 19 1 ∷ []
 
 -- of the first word FN counts, and where a LAL follows also bank and row; in a mode and a refresh they are ignored (RULES 2.3)
-abbrev pub firstPins : Bool → List Pins
-firstPins true = row 0 14 ∷ row 14 3 ∷ row 17 1 ∷ always
-firstPins false = row 17 1 ∷ always
+abbrev pub first_pins : Bool → List Pins
+first_pins true = row 0 14 ∷ row 14 3 ∷ row 17 1 ∷ always
+first_pins false = row 17 1 ∷ always
 
 -- how many pins carry the column: eight by 16, nine by 8 (RULES 2.4)
-abbrev pub columnWidth : Config → ℕ
-columnWidth c = cond (eqb c.organisation 16) 8 9
+abbrev pub column_width : Config → ℕ
+column_width c = cond (eqb c.organisation 16) 8 9
 
 -- a lane's VW0, and at BL 4 its VW1 (RULES 2.5)
-abbrev pub lanePins : Config → ℕ → ℕ → List Pins
-lanePins c vw0 vw1 = row vw0 1 ∷ cond (eqb c.bl 4) (row vw1 1 ∷ []) []
+abbrev pub lane_pins : Config → ℕ → ℕ → List Pins
+lane_pins c vw0 vw1 = row vw0 1 ∷ cond (eqb c.bl 4) (row vw1 1 ∷ []) []
 
 -- a write's lanes: the lower, and by 16 the upper
-abbrev pub writePins : Config → List Pins
-writePins c = lanePins c 16 13 ++ cond (eqb c.organisation 16) (lanePins c 12 11) []
+abbrev pub write_pins : Config → List Pins
+write_pins c = lane_pins c 16 13 ++ cond (eqb c.organisation 16) (lane_pins c 12 11) []
 
 -- the second word, by RDA and LAL: a read's, a write's, a mode's and a refresh's
-abbrev pub secondPins : Bool → Bool → Config → List Pins
-secondPins true true c = row 0 (columnWidth c) ∷ always
-secondPins false true c = row 0 (columnWidth c) ∷ writePins c ++ always
-secondPins true false c = row 0 14 ∷ row 14 3 ∷ always
-secondPins false false c = always
+abbrev pub second_pins : Bool → Bool → Config → List Pins
+second_pins true true c = row 0 (column_width c) ∷ always
+second_pins false true c = row 0 (column_width c) ∷ write_pins c ++ always
+second_pins true false c = row 0 14 ∷ row 14 3 ∷ always
+second_pins false false c = always
 
 -- the pair with every ignored pin low (RULES 3.5)
-abbrev pub ignoredLow : Config → Pair → Pair
-ignoredLow c p =
+abbrev pub ignored_low : Config → Pair → Pair
+ignored_low c p =
     record {
-      first = only (firstPins (lal p.second)) p.first;
-      second = only (secondPins (rda p.first) (lal p.second) c) p.second;
+      first = only (first_pins (lal p.second)) p.first;
+      second = only (second_pins (rda p.first) (lal p.second) c) p.second;
     }

@@ -3,22 +3,22 @@ use Rattle.std.specs.Prelude.{◌≡◌, false, ◌||◌}
 use Rattle.basics.specs.Outcome.{value}
 use Rattle.config.specs.Configuration.{derived}
 use Rattle.config.specs.declared.Config.{Config}
-use Rattle.command.specs.Pins.{strayBit}
-use Rattle.reading.specs.Reading.{decodedOf, readPair}
+use Rattle.command.specs.Pins.{stray_bit}
+use Rattle.reading.specs.Reading.{decoded_of, read_pair}
 use Rattle.reading.specs.declared.Decoded.{Decoded}
-use Rattle.writing.specs.Writing.{writePair}
-use Rattle.roundtrip.specs.Ignored.{ignoredLow}
+use Rattle.writing.specs.Writing.{write_pair}
+use Rattle.roundtrip.specs.Ignored.{ignored_low}
 use Rattle.command.specs.declared.operation.Operation.{Operation}
 use Rattle.command.specs.declared.operation.Pair.{Pair}
 
 -- the theorem, on any sheet
 pub record RoundTrip : Type 0 where
   -- an operation that is written reads back to itself, with the clocks of its data
-  pub written-reads-back : (c : Config) (o : Operation) (p : Pair) → writePair c o ≡ value p
-      → readPair c p ≡ value (decodedOf (derived c) o)
+  pub written-reads-back : (c : Config) (o : Operation) (p : Pair) → write_pair c o ≡ value p
+      → read_pair c p ≡ value (decoded_of (derived c) o)
   -- a pair that reads as an operation is written back as the same pair with every ignored pin low
-  pub read-writes-back : (c : Config) (p : Pair) (d : Decoded) → readPair c p ≡ value d
-      → writePair c d.operation ≡ value (ignoredLow c p)
+  pub read-writes-back : (c : Config) (p : Pair) (d : Decoded) → read_pair c p ≡ value d
+      → write_pair c d.operation ≡ value (ignored_low c p)
   -- a pair with no bit above 19 is read, or refused, as the same pair with every ignored pin low
-  pub ignored-when-read : (c : Config) (p : Pair) → (strayBit p.first || strayBit p.second) ≡ false
-      → readPair c p ≡ readPair c (ignoredLow c p)
+  pub ignored_when_read : (c : Config) (p : Pair) → (stray_bit p.first || stray_bit p.second) ≡ false
+      → read_pair c p ≡ read_pair c (ignored_low c p)

@@ -16,10 +16,10 @@ ltb-same a b c d f g = go (ltb a b) refl
   where
     go : (x : Bool) → ltb a b ≡ x → ltb a b ≡ ltb c d
     go true e = e ∙ sym (lt-ltb c d (f (ltb-true a b e)))
-    go false e = e ∙ sym (le-ltb c d (not-lt (ltb-false a b e)))
+    go false e = e ∙ sym (le-ltb c d (not_lt (ltb-false a b e)))
       where
-        not-lt : b ≤ a → d ≤ c
-        not-lt h = back (ltb c d) refl
+        not_lt : b ≤ a → d ≤ c
+        not_lt h = back (ltb c d) refl
           where
             back : (y : Bool) → ltb c d ≡ y → d ≤ c
             back false q = ltb-false c d q
@@ -32,18 +32,18 @@ abbrev pub Past0 : List ℕ → Type 0
 Past0 [] = Unit {0}
 Past0 (k ∷ ks) = (1 ≤ k) × Past0 ks
 
-pub closings-past0 : (f : ClosedPair → Bool) (ps : List ClosedPair) → Past0 (closings f ps)
-closings-past0 f [] = tt
-closings-past0 f (p ∷ ps) = go (f p) (closings-past0 f ps)
+pub closings_past0 : (f : ClosedPair → Bool) (ps : List ClosedPair) → Past0 (closings f ps)
+closings_past0 f [] = tt
+closings_past0 f (p ∷ ps) = go (f p) (closings_past0 f ps)
   where
     go : (b : Bool) → Past0 (closings f ps) → Past0 (cond b ((p.start + 1) ∷ closings f ps) (closings f ps))
     go true h = (omega arith, h)
     go false h = h
 
-pub each-past0 : (ks : List ℕ) → Past0 ks → (i : ℕ) → suc i ≤ length ks → 1 ≤ get_or ks i 0
-each-past0 [] h i l = absurd (omega arith)
-each-past0 (k ∷ ks) h zero l = h.0
-each-past0 (k ∷ ks) h (suc i) l = each-past0 ks h.1 i (omega arith)
+pub each_past0 : (ks : List ℕ) → Past0 ks → (i : ℕ) → suc i ≤ length ks → 1 ≤ get_or ks i 0
+each_past0 [] h i l = absurd (omega arith)
+each_past0 (k ∷ ks) h zero l = h.0
+each_past0 (k ∷ ks) h (suc i) l = each_past0 ks h.1 i (omega arith)
 
 pub nonzero : (k : ℕ) → 1 ≤ k → eqb k 0 ≡ false
 nonzero k h = ne_eqb k 0 (λ e. omega arith)
@@ -54,15 +54,15 @@ counted [] h i = lt-leb (suc i) 0 (omega arith)
 counted (k ∷ ks) h zero = le-leb 1 (suc (length ks)) (omega arith) ∙ sym (ap not (nonzero k h.0))
 counted (k ∷ ks) h (suc i) = leb-suc-suc (suc i) (length ks) ∙ counted ks h.1 i
 
-oldest-past0 : (k : ℕ) (ks : List ℕ) → Past0 (k ∷ ks) → 1 ≤ oldest (k ∷ ks)
-oldest-past0 k [] h = h.0
-oldest-past0 k (j ∷ ks) h = oldest-past0 j ks h.1
+oldest_past0 : (k : ℕ) (ks : List ℕ) → Past0 (k ∷ ks) → 1 ≤ oldest (k ∷ ks)
+oldest_past0 k [] h = h.0
+oldest_past0 k (j ∷ ks) h = oldest_past0 j ks h.1
 
 -- the first clock of a list that one more was put in front of
-pub oldest-cons : (k : ℕ) (ks : List ℕ) → Past0 ks → oldest (k ∷ ks) ≡ cond (eqb (oldest ks) 0) k (oldest ks)
-oldest-cons k [] h = refl
-oldest-cons k (j ∷ ks) h = sym (rw (nonzero (oldest (j ∷ ks)) (oldest-past0 j ks h)))
+pub oldest_cons : (k : ℕ) (ks : List ℕ) → Past0 ks → oldest (k ∷ ks) ≡ cond (eqb (oldest ks) 0) k (oldest ks)
+oldest_cons k [] h = refl
+oldest_cons k (j ∷ ks) h = sym (rw (nonzero (oldest (j ∷ ks)) (oldest_past0 j ks h)))
 
 pub oldest-counted : (ks : List ℕ) → Past0 ks → not (leb 1 (length ks)) ≡ eqb (oldest ks) 0
 oldest-counted [] h = refl
-oldest-counted (k ∷ ks) h = ap not (le-leb 1 (suc (length ks)) (omega arith)) ∙ sym (nonzero (oldest (k ∷ ks)) (oldest-past0 k ks h))
+oldest-counted (k ∷ ks) h = ap not (le-leb 1 (suc (length ks)) (omega arith)) ∙ sym (nonzero (oldest (k ∷ ks)) (oldest_past0 k ks h))

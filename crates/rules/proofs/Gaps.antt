@@ -10,7 +10,7 @@ use lib.ListN.{length, get_or}
 use lib.Dec.{leb, ltb}
 use Rattle.config.specs.declared.Timing.{Timing}
 use Rattle.rules.specs.History.{Past}
-use Rattle.rules.specs.Rules.{closings, wasRefresh, rule3}
+use Rattle.rules.specs.Rules.{closings, was_refresh, rule3}
 
 -- each clock of a list is at most D after the one behind it
 abbrev pub Gaps : ℕ → List ℕ → Type 0
@@ -22,9 +22,9 @@ pub gaps-behind : (D k : ℕ) (ks : List ℕ) → Gaps D (k ∷ ks) → Gaps D k
 gaps-behind D k [] g = tt
 gaps-behind D k (j ∷ js) g = g.1
 
-pub gaps-cons : (D k : ℕ) (ks : List ℕ) → k ≤ get_or ks 0 0 + D → Gaps D ks → Gaps D (k ∷ ks)
-gaps-cons D k [] h g = tt
-gaps-cons D k (j ∷ js) h g = (h, g)
+pub gaps_cons : (D k : ℕ) (ks : List ℕ) → k ≤ get_or ks 0 0 + D → Gaps D ks → Gaps D (k ∷ ks)
+gaps_cons D k [] h g = tt
+gaps_cons D k (j ∷ js) h g = (h, g)
 
 -- from one clock to the i-th behind it
 reach : (D k : ℕ) (ks : List ℕ) → Gaps D (k ∷ ks) → (i : ℕ) → i ≤ length ks → k ≤ get_or (k ∷ ks) i 0 + i * D
@@ -33,11 +33,11 @@ reach D k [] g (suc i) h = absurd (omega arith)
 reach D k (j ∷ js) g (suc i) h = omega (arith, g.0, reach D j js g.1 i (omega arith), suc-mul i D)
 
 -- so rule 3 is kept at k
-pub short-gaps : (t : Timing) (p : Past) (w : ℕ) → Gaps t.refi (p.clock ∷ closings wasRefresh p.pairs) → rule3 t p w ≡ false
+pub short-gaps : (t : Timing) (p : Past) (w : ℕ) → Gaps t.refi (p.clock ∷ closings was_refresh p.pairs) → rule3 t p w ≡ false
 short-gaps t p w g = by (min (length refs) 8) (omega arith)
   where
     refs : List ℕ
-    refs = closings wasRefresh p.pairs
+    refs = closings was_refresh p.pairs
 
     by : (m : ℕ) → m ≤ length refs → (leb 1 m && ltb (m * t.refi) (p.clock - get_or refs (m - 1) 0)) ≡ false
     by zero h = refl

@@ -22,9 +22,9 @@ Ordered b (p ∷ ps) = (p.start + 2 ≤ b) × Ordered p.start ps
 abbrev pub latest : (ClosedPair → Bool) → List ClosedPair → ℕ
 latest f ps = get_or (closings f ps) 0 0
 
-pub latest-cons : (f : ClosedPair → Bool) (p : ClosedPair) (ps : List ClosedPair)
+pub latest_cons : (f : ClosedPair → Bool) (p : ClosedPair) (ps : List ClosedPair)
     → latest f (p ∷ ps) ≡ cond (f p) (p.start + 1) (latest f ps)
-latest-cons f p ps = go (f p)
+latest_cons f p ps = go (f p)
   where
     go : (b : Bool) → get_or (cond b ((p.start + 1) ∷ closings f ps) (closings f ps)) 0 0 ≡ cond b (p.start + 1) (latest f ps)
     go true = refl
@@ -34,23 +34,23 @@ latest-cons f p ps = go (f p)
 abbrev Falls : (ℕ → Bool) → Type 0
 Falls g = (a b : ℕ) → a ≤ b → g b ≡ false → g a ≡ false
 
-none-older : (f : ClosedPair → Bool) (g : ℕ → Bool) → Falls g → (b : ℕ) → g b ≡ false → (ps : List ClosedPair) → Ordered b ps
+none_older : (f : ClosedPair → Bool) (g : ℕ → Bool) → Falls g → (b : ℕ) → g b ≡ false → (ps : List ClosedPair) → Ordered b ps
     → earlier (λ p. f p && g p.start) ps ≡ false
-none-older f g falls b e [] o = refl
-none-older f g falls b e (p ∷ ps) o =
+none_older f g falls b e [] o = refl
+none_older f g falls b e (p ∷ ps) o =
     let here = falls p.start b (omega arith) e in
-    rw (here, and-false) (none-older f g falls p.start here ps o.1)
+    rw (here, and-false) (none_older f g falls p.start here ps o.1)
 
 newest : (f : ClosedPair → Bool) (g h : ℕ → Bool) → Falls g → (u : ℕ) → ((s : ℕ) → s + 2 ≤ u → g s ≡ h (s + 1))
     → (b : ℕ) → b ≤ u → (ps : List ClosedPair) → Ordered b ps
     → earlier (λ p. f p && g p.start) ps ≡ (not (eqb (latest f ps) 0) && h (latest f ps))
 newest f g h falls u same b le [] o = refl
 newest f g h falls u same b le (p ∷ ps) o =
-    rw (latest-cons f p ps) (go (newest f g h falls u same p.start (omega arith) ps o.1) (f p))
+    rw (latest_cons f p ps) (go (newest f g h falls u same p.start (omega arith) ps o.1) (f p))
   where
     here : (x : Bool) → g p.start ≡ x → (x || earlier (λ p. f p && g p.start) ps) ≡ x
     here true e = refl
-    here false e = none-older f g falls p.start e ps o.1
+    here false e = none_older f g falls p.start e ps o.1
 
     go : earlier (λ p. f p && g p.start) ps ≡ (not (eqb (latest f ps) 0) && h (latest f ps)) → (x : Bool)
         → (x && g p.start || earlier (λ p. f p && g p.start) ps)

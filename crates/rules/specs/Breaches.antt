@@ -2,12 +2,12 @@
 -- t + 1 to u has 1 added to it here.
 use Rattle.std.specs.Prelude.{ℕ, zero, suc, ◌+◌, ◌*◌, ◌/◌, Bool, cond, not, ◌&&◌, ◌||◌, List, [], ◌∷◌, get_or, eqb, ltb}
 use Rattle.config.specs.declared.Timing.{Timing}
-use Rattle.command.specs.Pins.{high, strayBit}
-use Rattle.command.specs.Pairs.{selected, rda, lal, isRefresh}
-use Rattle.command.specs.Address.{bankOf}
-use Rattle.reading.specs.Reading.{modeWrong, laneReserved}
+use Rattle.command.specs.Pins.{high, stray_bit}
+use Rattle.command.specs.Pairs.{selected, rda, lal, is_refresh}
+use Rattle.command.specs.Address.{bank_of}
+use Rattle.reading.specs.Reading.{mode_wrong, lane_reserved}
 use Rattle.rules.specs.Rules.{lowest}
-use Rattle.stamps.specs.Stamps.{isPoweredDown, isExiting}
+use Rattle.stamps.specs.Stamps.{is_powered_down, is_exiting}
 use Rattle.stamps.specs.declared.Timestamps.{Timestamps}
 
 -- an event at c, if there was one, is less than n clocks before k
@@ -15,26 +15,26 @@ abbrev pub near : ℕ → ℕ → ℕ → Bool
 near k c n = not (eqb c 0) && ltb k (c + n)
 
 -- the LAL of the last read or write of the bank that a first word names, with four banks (true) or eight
-abbrev pub bankStamp : Bool → Timestamps → ℕ → ℕ
-bankStamp four s first = get_or s.banks (bankOf four first) 0
+abbrev pub bank_stamp : Bool → Timestamps → ℕ → ℕ
+bank_stamp four s first = get_or s.banks (bank_of four first) 0
 
 -- the last clock that rule 3 allows, by D and the first so many places of the last REF words, newest first: if m is the highest place that
 -- is not 0, m × D after the REF word there; 0 where all are 0
-abbrev pub deadlineBy : ℕ → ℕ → List ℕ → ℕ
-deadlineBy zero refi refs = 0
-deadlineBy (suc i) refi refs = cond (eqb (get_or refs i 0) 0) (deadlineBy i refi refs) (get_or refs i 0 + suc i * refi)
+abbrev pub deadline_by : ℕ → ℕ → List ℕ → ℕ
+deadline_by zero refi refs = 0
+deadline_by (suc i) refi refs = cond (eqb (get_or refs i 0) 0) (deadline_by i refi refs) (get_or refs i 0 + suc i * refi)
 
 -- the last clock that rule 3 allows, by D and the eight REF words that are kept; 0 where there is none
 abbrev pub deadline : ℕ → List ℕ → ℕ
-deadline refi refs = deadlineBy 8 refi refs
+deadline refi refs = deadline_by 8 refi refs
 
 -- rule 3: k is past the last clock that it allows, if there is one
 abbrev pub overdue : ℕ → ℕ → Bool
 overdue last k = not (eqb last 0) && ltb last k
 
 -- rule 2: PD may not go low at k yet. From t to k is k + 1 less a timestamp, and from the LAL k less it.
-abbrev pub mustStayHigh : Timing → Timestamps → ℕ → Bool
-mustStayHigh t s k =
+abbrev pub must_stay_high : Timing → Timestamps → ℕ → Bool
+must_stay_high t s k =
     near (k + 1) s.read t.rc
     || near (k + 1) s.write t.rc
     || near (k + 1) s.mode t.rsc
@@ -43,26 +43,26 @@ mustStayHigh t s k =
     || near k s.write (t.wl + 2)
 
 -- rule 2, by what the word meets
-abbrev pub wronglyLow : Timing → Timestamps → ℕ → ℕ → ℕ → Bool
-wronglyLow t s k first w =
-    not (high 19 w) && (not (isPoweredDown first) && (selected first || isExiting first || selected w || mustStayHigh t s k))
+abbrev pub wrongly_low : Timing → Timestamps → ℕ → ℕ → ℕ → Bool
+wrongly_low t s k first w =
+    not (high 19 w) && (not (is_powered_down first) && (selected first || is_exiting first || selected w || must_stay_high t s k))
 
 -- rules 1 to 3, by rule 2 and the last clock that rule 3 allows
-abbrev pub earlyBreach : Bool → ℕ → ℕ → ℕ → ℕ
-earlyBreach low last k w = lowest 1 (strayBit w ∷ low ∷ overdue last k ∷ [])
+abbrev pub early_breach : Bool → ℕ → ℕ → ℕ → ℕ
+early_breach low last k w = lowest 1 (stray_bit w ∷ low ∷ overdue last k ∷ [])
 
 -- rule 13: a wake-up word with CS low
-abbrev pub selectedAtExit : ℕ → ℕ → Bool
-selectedAtExit first w = (isPoweredDown first || isExiting first) && (high 19 w && selected w)
+abbrev pub selected_at_exit : ℕ → ℕ → Bool
+selected_at_exit first w = (is_powered_down first || is_exiting first) && (high 19 w && selected w)
 
 -- rule 6, for a read or write: first extended and last regular MRS, last but one REF; from the extended MRS word to u are 200 clocks, to
 -- k 201
-abbrev pub notReady : ℕ → ℕ → ℕ → ℕ → Bool
-notReady extended regular secondLast k = eqb extended 0 || eqb regular 0 || eqb secondLast 0 || ltb k (extended + 201)
+abbrev pub not_ready : ℕ → ℕ → ℕ → ℕ → Bool
+not_ready extended regular secondLast k = eqb extended 0 || eqb regular 0 || eqb secondLast 0 || ltb k (extended + 201)
 
 -- rule 8, by RDA and LAL and the last read and the last write
-abbrev pub tooClose : Bool → Bool → Timing → ℕ → ℕ → ℕ → Bool
-tooClose isRda isLal t read write k =
+abbrev pub too_close : Bool → Bool → Timing → ℕ → ℕ → ℕ → Bool
+too_close isRda isLal t read write k =
     isLal && (near k read t.rbd || near k write t.rbd)
     || not isRda && isLal && near k read (t.rwd + 1)
     || isRda && isLal && near k write (t.wrd + 1)
@@ -75,26 +75,26 @@ busy isRda isLal t read write k =
     || isRda && not isLal && near k write (t.wl + t.bl / 2 + 1)
 
 -- rules 4 to 12
-abbrev pub closingBreach : Timing → Timestamps → ℕ → ℕ → ℕ → ℕ
-closingBreach t s k first second =
+abbrev pub closing_breach : Timing → Timestamps → ℕ → ℕ → ℕ → ℕ
+closing_breach t s k first second =
     lowest 4
-    (modeWrong t first second
-    ∷ laneReserved t first second
-    ∷ (lal second && notReady s.extended s.regular (get_or s.refs 1 0) k)
-    ∷ (lal second && near k (bankStamp t.four s first) t.rc)
-    ∷ tooClose (rda first) (lal second) t s.read s.write k
+    (mode_wrong t first second
+    ∷ lane_reserved t first second
+    ∷ (lal second && not_ready s.extended s.regular (get_or s.refs 1 0) k)
+    ∷ (lal second && near k (bank_stamp t.four s first) t.rc)
+    ∷ too_close (rda first) (lal second) t s.read s.write k
     ∷ near k s.mode t.rsc
     ∷ near k (get_or s.refs 0 0) t.refc
     ∷ busy (rda first) (lal second) t s.read s.write k
-    ∷ (isRefresh first second && near k (get_or s.refs 7 0) t.window)
+    ∷ (is_refresh first second && near k (get_or s.refs 7 0) t.window)
     ∷ [])
 
 -- the lowest of rules 1 to 3 at a word, by what it meets
-abbrev pub earlyAt : Timing → Timestamps → ℕ → ℕ → ℕ → ℕ
-earlyAt t s k first w = earlyBreach (wronglyLow t s k first w) (deadline t.refi s.refs) k w
+abbrev pub early_at : Timing → Timestamps → ℕ → ℕ → ℕ → ℕ
+early_at t s k first w = early_breach (wrongly_low t s k first w) (deadline t.refi s.refs) k w
 
 -- the lowest breach at a word, by what it meets
-abbrev pub wordBreach : Timing → Timestamps → ℕ → ℕ → ℕ → ℕ
-wordBreach t s k first w =
-    let early = earlyAt t s k first w in
-    cond (eqb early 0) (cond (selected first) (closingBreach t s k first w) (cond (selectedAtExit first w) 13 0)) early
+abbrev pub word_breach : Timing → Timestamps → ℕ → ℕ → ℕ → ℕ
+word_breach t s k first w =
+    let early = early_at t s k first w in
+    cond (eqb early 0) (cond (selected first) (closing_breach t s k first w) (cond (selected_at_exit first w) 13 0)) early

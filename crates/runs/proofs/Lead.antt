@@ -9,7 +9,7 @@ use native.Mathlib.Numerals.{add-one}
 use borrow.Author.Tests.{eqb-true}
 use lib.ListN.{length, get_or, drop, drop_of_length-le}
 use lib.Seq.{drop-cons, drop-drop}
-use Rattle.runs.specs.Runs.{agrees, leading, runEnd}
+use Rattle.runs.specs.Runs.{agrees, leading, run_end}
 
 module _ (shift top : ℕ) where
   lead-drop : (n : ℕ) (l : List ℕ) → n ≤ leading shift top l → leading shift top l ≡ n + leading shift top (drop n l)
@@ -31,7 +31,7 @@ module _ (shift top : ℕ) where
     pub lead-past : (n at : ℕ) → n ≤ lead at → lead at ≡ n + lead (at + n)
     lead-past n at h = rw (← drop-drop n at ws) (lead-drop n (drop at ws) h)
 
-    pub run_past : (n at stop : ℕ) → n ≤ lead at → at + n ≤ stop → runEnd shift top stop ws (at + n) ≡ runEnd shift top stop ws at
+    pub run_past : (n at stop : ℕ) → n ≤ lead at → at + n ≤ stop → run_end shift top stop ws (at + n) ≡ run_end shift top stop ws at
     run_past n at stop h inside = omega (arith, lead-past n at h)
 
     module _ (at : ℕ) (inside : at < length ws) {r : Bool} (is : r ≡ agrees shift top (get_or ws at 0)) where
@@ -41,14 +41,14 @@ module _ (shift top : ℕ) where
       lead-on e = rw (add-one, drop-cons ws at 0, ← is, e) (omega arith)
 
       -- and at one that does not
-      pub lead-off : r ≡ false → lead at ≡ 0
+      pub lead_off : r ≡ false → lead at ≡ 0
       unfolding leading
-      lead-off e = rw (drop-cons ws at 0, ← is, e)
+      lead_off e = rw (drop-cons ws at 0, ← is, e)
 
     -- a word of a run is there, and agrees
-    pub in-run : (from k : ℕ) → k < lead from → (from + k < length ws) × (get_or ws (from + k) 0 / 2 ^ shift ≡ top)
+    pub in_run : (from k : ℕ) → k < lead from → (from + k < length ws) × (get_or ws (from + k) 0 / 2 ^ shift ≡ top)
     unfolding leading
-    in-run from k h = (there, eqb-true _ top (by (agrees shift top (get_or ws (from + k) 0)) refl))
+    in_run from k h = (there, eqb-true _ top (by (agrees shift top (get_or ws (from + k) 0)) refl))
       where
         here : 1 ≤ lead (from + k)
         here = omega (arith, lead-past k from (omega arith))
@@ -61,10 +61,10 @@ module _ (shift top : ℕ) where
 
         by : (b : Bool) → agrees shift top (get_or ws (from + k) 0) ≡ b → agrees shift top (get_or ws (from + k) 0) ≡ true
         by true e = e
-        by false e = absurd (omega (arith, here, lead-off (from + k) there refl e))
+        by false e = absurd (omega (arith, here, lead_off (from + k) there refl e))
 
     -- no run goes past the words
-    pub cut : (end from : ℕ) {stop : ℕ} → stop ≡ min end (length ws) → runEnd shift top stop ws from ≡ runEnd shift top end ws from
+    pub cut : (end from : ℕ) {stop : ℕ} → stop ≡ min end (length ws) → run_end shift top stop ws from ≡ run_end shift top end ws from
     cut end from e =
-        let fits : lead from < length ws - from + 1 = lt_of_not-le (λ h. omega (arith, (in-run from (length ws - from) (omega arith)).0)) in
+        let fits : lead from < length ws - from + 1 = lt_of_not-le (λ h. omega (arith, (in_run from (length ws - from) (omega arith)).0)) in
         omega arith

@@ -11,7 +11,7 @@ use lib.ListN.{length, get_or}
 use lib.Pow.{pow-add, shr_le}
 use lib.Bits.{bit_or, or_shifted_r}
 use lib.Count.{count_trailing_zeros, under}
-use Rattle.runs.specs.Runs.{agrees, marks, marksFrom}
+use Rattle.runs.specs.Runs.{agrees, marks, marks_from}
 
 module _ (shift top : ℕ) (ws : List ℕ) where
   -- the mark of a word
@@ -32,11 +32,11 @@ module _ (shift top : ℕ) (ws : List ℕ) where
       by true is e = is
       by false is e = absurd (omega arith)
 
-  pub marks-lt : (from n : ℕ) → marks shift top ws from n < 2 ^ n
+  pub marks_lt : (from n : ℕ) → marks shift top ws from n < 2 ^ n
   unfolding marks
-  marks-lt from zero = omega arith
-  marks-lt from (suc n) =
-      let below = marks-lt from n in
+  marks_lt from zero = omega arith
+  marks_lt from (suc n) =
+      let below = marks_lt from n in
       by (mark (from + n)) (small (from + n)) below
     where
       by : (b : ℕ) → b < 2 → marks shift top ws from n < 2 ^ n → marks shift top ws from n + b * 2 ^ n < 2 ^ suc n
@@ -45,11 +45,11 @@ module _ (shift top : ℕ) (ws : List ℕ) where
       by (suc (suc b)) h below = absurd (omega arith)
 
   -- of 58 words, where there are so many and where there are not
-  pub marks-there : (from : ℕ) → from + 58 ≤ length ws → marksFrom shift top ws from ≡ marks shift top ws from 58
+  pub marks-there : (from : ℕ) → from + 58 ≤ length ws → marks_from shift top ws from ≡ marks shift top ws from 58
   marks-there from h = rw (le-leb (from + 58) (length ws) h)
 
-  pub marks-missing : (from : ℕ) → length ws < from + 58 → marksFrom shift top ws from ≡ 0
-  marks-missing from h = rw (lt-leb (from + 58) (length ws) h)
+  pub marks_missing : (from : ℕ) → length ws < from + 58 → marks_from shift top ws from ≡ 0
+  marks_missing from h = rw (lt-leb (from + 58) (length ws) h)
 
   -- by one word more
   module _ (from n : ℕ) {m : ℕ} {r : Bool} (is : m ≡ marks shift top ws from n) (here : r ≡ agrees shift top (get_or ws (from + n) 0)) where
@@ -57,16 +57,16 @@ module _ (shift top : ℕ) (ws : List ℕ) where
     unfolding marks
     marks-on e = rw (add-one, ← here, e, is) (omega arith)
 
-    pub marks-off : r ≡ false → bit_or m (1 * 2 ^ n) ≡ marks shift top ws from (n + 1)
+    pub marks_off : r ≡ false → bit_or m (1 * 2 ^ n) ≡ marks shift top ws from (n + 1)
     unfolding marks
-    marks-off e = or_shifted_r 1 n m (rw is (marks-lt from n)) ∙ rw (add-one, ← here, e, is) (omega arith)
+    marks_off e = or_shifted_r 1 n m (rw is (marks_lt from n)) ∙ rw (add-one, ← here, e, is) (omega arith)
 
   -- of two parts
-  pub marks-join : (from a b : ℕ) → marks shift top ws from a + marks shift top ws (from + a) b * 2 ^ a ≡ marks shift top ws from (a + b)
+  pub marks_join : (from a b : ℕ) → marks shift top ws from a + marks shift top ws (from + a) b * 2 ^ a ≡ marks shift top ws from (a + b)
   unfolding marks
-  marks-join from a zero = rw (add-zero a) (omega arith)
-  marks-join from a (suc b) =
-      let on = marks-join from a b in
+  marks_join from a zero = rw (add-zero a) (omega arith)
+  marks_join from a (suc b) =
+      let on = marks_join from a b in
       let place : from + a + b ≡ from + (a + b) = omega arith in
       rw (add-suc a b, place, add-mul (marks shift top ws (from + a) b) (mark (from + (a + b)) * 2 ^ b) (2 ^ a), pow-add 2 a b)
       (omega (arith, mul_assoc (mark (from + (a + b))) (2 ^ b) (2 ^ a), mul_comm (2 ^ a) (2 ^ b)))

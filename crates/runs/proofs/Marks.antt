@@ -16,8 +16,8 @@ pub record Marks (lead n m : ℕ) : Type 0 where
   pub kept : n ≤ lead → (d above : ℕ) → count_trailing_zeros (n + d) (m + above * 2 ^ n) ≡ n + count_trailing_zeros d above
   pub met : lead < n → (d above : ℕ) → count_trailing_zeros (n + d) (m + above * 2 ^ n) ≡ lead
 
-pub no-marks : (lead : ℕ) → Marks lead 0 0
-no-marks lead =
+pub no_marks : (lead : ℕ) → Marks lead 0 0
+no_marks lead =
     record {
       small = omega arith;
       kept = λ h d above.

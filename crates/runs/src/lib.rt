@@ -4,7 +4,7 @@
 // neighbouring words at once.
 ghost use Rattle.std.specs.Prelude.{◌≡◌, true, ◌+◌, ◌/◌, ◌%◌, ◌≤◌, ◌<◌, min, length, get_or, drop};
 ghost use Rattle.words.specs.Words.{words_of};
-ghost use Rattle.runs.specs.Runs.{agrees, leading, runEnd, marks, marksFrom};
+ghost use Rattle.runs.specs.Runs.{agrees, leading, run_end, marks, marks_from};
 
 // Whether the word at an index is `top` without its `shift` lowest bits.
 fn agrees(bytes: &[u8], at: usize, shift: u32, top: u32) -> bool
@@ -49,7 +49,7 @@ fn leading(bytes: &[u8], at: usize, shift: u32, top: u32) -> usize
 // Where a run ends, by one word a turn.
 fn past_singly(bytes: &[u8], from: usize, stop: usize, shift: u32, top: u32) -> usize
     requires { (stop ≤ length bytes.now / 4) × (shift < 32) }
-    ensures { result ≡ runEnd shift top stop (words_of bytes.now) from }
+    ensures { result ≡ run_end shift top stop (words_of bytes.now) from }
 {
     let mut at = from;
     while at < stop {
@@ -64,7 +64,7 @@ fn past_singly(bytes: &[u8], from: usize, stop: usize, shift: u32, top: u32) -> 
 // An index from which the run ends where it does from the first, by eight words a turn.
 fn past_eights(bytes: &[u8], from: usize, stop: usize, shift: u32, top: u32) -> usize
     requires { (stop ≤ length bytes.now / 4) × (from ≤ stop) × (shift < 32) }
-    ensures { (result ≤ stop) × (let ws = words_of bytes.now in runEnd shift top stop ws result ≡ runEnd shift top stop ws from) }
+    ensures { (result ≤ stop) × (let ws = words_of bytes.now in run_end shift top stop ws result ≡ run_end shift top stop ws from) }
 {
     let mut at = from;
     while at + 8 <= stop {
@@ -85,7 +85,7 @@ fn lesser(a: usize, b: usize) -> usize
 // Where the run from an index on ends, of words that are `top` without their lowest bits, as many as `shift` modulo 32. Up to sixteen
 // words are passed at once, which are most runs between commands; then eight a turn, and what is left one by one.
 pub fn past_run(bytes: &[u8], from: usize, end: usize, shift: u32, top: u32) -> usize
-    ensures { result ≡ runEnd (shift % 32) top end (words_of bytes.now) from }
+    ensures { result ≡ run_end (shift % 32) top end (words_of bytes.now) from }
 {
     let count = bytes.len() / 4;
     let stop = lesser(end, count);
@@ -128,7 +128,7 @@ fn half_marks(bytes: &[u8], from: usize, shift: u32, top: u32) -> u32
 // A bit for each of the 58 words from an index on that does not agree, where the bytes hold them all, and otherwise 0. Both halves are
 // asked for 0 before they are put together: else the compiler makes numbers of 64 bits of all bits, and tests two words at once.
 pub fn marks_from(bytes: &[u8], from: usize, shift: u32, top: u32) -> u64
-    ensures { result ≡ marksFrom (shift % 32) top (words_of bytes.now) from }
+    ensures { result ≡ marks_from (shift % 32) top (words_of bytes.now) from }
 {
     let count = bytes.len() / 4;
     let shift = shift % 32;

@@ -1,6 +1,6 @@
 // The pairs that a controller opens: which comes next, and the words of each.
 ghost use Rattle.std.specs.Prelude.{◌≡◌, ◌+◌, leb};
-ghost use Rattle.scheduler.specs.Pairs.{pairWords, isOpen, ofWaiting, placeOf, chosenAt, nextPair};
+ghost use Rattle.scheduler.specs.Pairs.{pair_words, is_open, of_waiting, place_of, chosen_at, next_pair};
 
 use command::{Operation, Pair, Request};
 use config::Timing;
@@ -19,7 +19,7 @@ pub enum OpenPair {
 
 // A pair is open.
 pub fn is_open(opened: OpenPair) -> bool
-    ensures { result ≡ isOpen opened }
+    ensures { result ≡ is_open opened }
 {
     match opened {
         OpenPair::Nothing => false,
@@ -32,7 +32,7 @@ pub fn is_open(opened: OpenPair) -> bool
 
 // The open pair is that of a waiting request.
 pub fn of_waiting(opened: OpenPair) -> bool
-    ensures { result ≡ ofWaiting opened }
+    ensures { result ≡ of_waiting opened }
 {
     match opened {
         OpenPair::Nothing => false,
@@ -45,7 +45,7 @@ pub fn of_waiting(opened: OpenPair) -> bool
 
 // The place of the request whose pair is open; 0 where it is no request's.
 pub fn place_of(opened: OpenPair) -> u32
-    ensures { result ≡ placeOf opened }
+    ensures { result ≡ place_of opened }
 {
     match opened {
         OpenPair::Nothing => 0,
@@ -58,7 +58,7 @@ pub fn place_of(opened: OpenPair) -> u32
 
 // The two words of an open pair, from the request at its place; DESL where none is open.
 pub fn pair_words(timing: Timing, opened: OpenPair, request: Request) -> Pair
-    ensures { result ≡ pairWords timing opened request }
+    ensures { result ≡ pair_words timing opened request }
 {
     match opened {
         OpenPair::Nothing => Pair {
@@ -81,7 +81,7 @@ fn refresh_due(last: u32, refi: u32, clock: u32, rc: u32) -> bool
 
 // The pair of the request at a place, where so many wait; nothing where none waits there.
 pub fn chosen_at(place: u32, count: u32) -> OpenPair
-    ensures { result ≡ chosenAt place count }
+    ensures { result ≡ chosen_at place count }
 {
     if place < count {
         OpenPair::Waiting(place)
@@ -92,7 +92,7 @@ pub fn chosen_at(place: u32, count: u32) -> OpenPair
 
 // The start-up in its order, then a refresh that is due, then what is chosen.
 pub fn next_pair(timing: Timing, stamps: Timestamps, clock: u32, chosen: OpenPair) -> OpenPair
-    ensures { result ≡ nextPair timing stamps clock chosen }
+    ensures { result ≡ next_pair timing stamps clock chosen }
 {
     let figures = timing.figures();
     let refs = stamps.refs;

@@ -3,12 +3,12 @@
 use Rattle.std.specs.Prelude.{ℕ, Bool, cond, not, ◌&&◌, List, [], ◌∷◌, get_or, set, eqb}
 use Rattle.command.specs.Pins.{high}
 use Rattle.command.specs.Pairs.{selected, rda, lal, desl}
-use Rattle.command.specs.Address.{bankOf}
+use Rattle.command.specs.Address.{bank_of}
 use Rattle.stamps.specs.declared.Timestamps.{Timestamps}
 
 -- what is kept once a read or write has closed at k
-abbrev pub withAccess : Timestamps → ℕ → Bool → ℕ → Timestamps
-withAccess s k read bank =
+abbrev pub with_access : Timestamps → ℕ → Bool → ℕ → Timestamps
+with_access s k read bank =
     record {
       extended = s.extended;
       regular = s.regular;
@@ -20,8 +20,8 @@ withAccess s k read bank =
     }
 
 -- what is kept once a mode has: the first extended MRS, the last regular one
-abbrev pub withMode : Timestamps → ℕ → Bool → Timestamps
-withMode s k extended =
+abbrev pub with_mode : Timestamps → ℕ → Bool → Timestamps
+with_mode s k extended =
     record {
       extended = cond (extended && eqb s.extended 0) k s.extended;
       regular = cond extended s.regular k;
@@ -46,8 +46,8 @@ shifted k r =
     ∷ []
 
 -- what is kept once a refresh has
-abbrev pub withRefresh : Timestamps → ℕ → Timestamps
-withRefresh s k =
+abbrev pub with_refresh : Timestamps → ℕ → Timestamps
+with_refresh s k =
     record {
       extended = s.extended;
       regular = s.regular;
@@ -61,12 +61,12 @@ withRefresh s k =
 -- what is kept once any pair has closed at k, with four banks (true) or eight
 abbrev pub remembered : Bool → Timestamps → ℕ → ℕ → ℕ → Timestamps
 remembered four s k first second =
-    cond (lal second) (withAccess s k (rda first) (bankOf four first))
-    (cond (rda first) (withMode s k (high 14 second)) (withRefresh s k))
+    cond (lal second) (with_access s k (rda first) (bank_of four first))
+    (cond (rda first) (with_mode s k (high 14 second)) (with_refresh s k))
 
 -- what is kept after any word, with four banks (true) or eight
-abbrev pub nextStamps : Bool → Timestamps → ℕ → ℕ → ℕ → Timestamps
-nextStamps four s k first w = cond (selected first) (remembered four s k first w) s
+abbrev pub next_stamps : Bool → Timestamps → ℕ → ℕ → ℕ → Timestamps
+next_stamps four s k first w = cond (selected first) (remembered four s k first w) s
 
 -- what the next word meets is kept as one word (RULES 2.8): the first word of the open pair, DESL for nothing, or this one where the memory
 -- is asleep
@@ -78,18 +78,18 @@ abbrev pub waking : ℕ
 waking = 0xE0000
 
 -- the memory is asleep, by what is met as one word: with CS high no pair is open, and PD is low
-abbrev pub isPoweredDown : ℕ → Bool
-isPoweredDown first = high 18 first && not (high 19 first)
+abbrev pub is_powered_down : ℕ → Bool
+is_powered_down first = high 18 first && not (high 19 first)
 
 -- the second wake-up word is due, by what is met as one word: CS, PD and FN are high
-abbrev pub isExiting : ℕ → Bool
-isExiting first = high 18 first && (high 19 first && high 17 first)
+abbrev pub is_exiting : ℕ → Bool
+is_exiting first = high 18 first && (high 19 first && high 17 first)
 
 -- what the word behind w meets, as one word, where w met `first`
-abbrev pub nextMet : ℕ → ℕ → ℕ
-nextMet first w =
+abbrev pub next_met : ℕ → ℕ → ℕ
+next_met first w =
     cond (selected first) desl
-    (cond (high 19 w) (cond (selected w) w (cond (isPoweredDown first) waking desl)) asleep)
+    (cond (high 19 w) (cond (selected w) w (cond (is_powered_down first) waking desl)) asleep)
 
 -- nothing is remembered
 abbrev pub never : Timestamps

@@ -1,7 +1,7 @@
 // What is kept of the past: the clock of each event's closing word, 0 for never.
 ghost use Rattle.std.specs.Prelude.{◌≡◌, ◌<◌};
-ghost use Rattle.stamps.specs.Stamps.{withAccess, withMode, withRefresh, remembered, nextStamps, never};
-ghost use Rattle.stamps.specs.Stamps.{isPoweredDown, isExiting, nextMet};
+ghost use Rattle.stamps.specs.Stamps.{with_access, with_mode, with_refresh, remembered, next_stamps, never};
+ghost use Rattle.stamps.specs.Stamps.{is_powered_down, is_exiting, next_met};
 
 use basics::choose;
 use command::address::bank;
@@ -52,7 +52,7 @@ impl Timestamps {
 
     fn with_access(self, clock: u32, read: bool, bank: usize) -> Timestamps
         requires { bank < 8 }
-        ensures { result ≡ withAccess self clock read bank }
+        ensures { result ≡ with_access self clock read bank }
     {
         let mut banks = self.banks;
         banks[bank] = clock;
@@ -69,7 +69,7 @@ impl Timestamps {
     }
 
     fn with_mode(self, clock: u32, extended: bool) -> Timestamps
-        ensures { result ≡ withMode self clock extended }
+        ensures { result ≡ with_mode self clock extended }
     {
         let banks = self.banks;
         let refs = self.refs;
@@ -85,7 +85,7 @@ impl Timestamps {
     }
 
     fn with_refresh(self, clock: u32) -> Timestamps
-        ensures { result ≡ withRefresh self clock }
+        ensures { result ≡ with_refresh self clock }
     {
         let banks = self.banks;
         let r = self.refs;
@@ -119,7 +119,7 @@ impl Timestamps {
 
     // What is kept after a word, by what the word meets.
     pub fn after(self, four: bool, clock: u32, first: u32, word: u32) -> Timestamps
-        ensures { result ≡ nextStamps four self clock first word }
+        ensures { result ≡ next_stamps four self clock first word }
     {
         let opened = !high(first, CS);
         if opened {
@@ -132,7 +132,7 @@ impl Timestamps {
 
 // The memory is asleep: no pair is open, and PD was low.
 pub fn is_powered_down(first: u32) -> bool
-    ensures { result ≡ isPoweredDown first }
+    ensures { result ≡ is_powered_down first }
 {
     let no_pair = high(first, CS);
     no_pair & !high(first, PD)
@@ -140,7 +140,7 @@ pub fn is_powered_down(first: u32) -> bool
 
 // The second of the two wake-up words is due.
 pub fn is_exiting(first: u32) -> bool
-    ensures { result ≡ isExiting first }
+    ensures { result ≡ is_exiting first }
 {
     let unpaired = high(first, CS);
     let driven = high(first, PD);
@@ -149,7 +149,7 @@ pub fn is_exiting(first: u32) -> bool
 
 // What the word behind this one meets.
 pub fn next_met(first: u32, word: u32) -> u32
-    ensures { result ≡ nextMet first word }
+    ensures { result ≡ next_met first word }
 {
     let after_desl = choose(is_powered_down(first), EXITING, DESL);
     let driven = choose(!high(word, CS), word, after_desl);

@@ -4,29 +4,29 @@ use mathlib.Core.Path.{◌≡◌, refl, sym, subst⁻¹}
 use mathlib.Core.List.{List, [], ◌++◌, nil≢cons}
 use native.Mathlib.Omega.{arith}
 use lib.ListN.{length, drop}
-use Rattle.rules.specs.Turns.{turnsFrom, wordsInAll, NoneOpen}
-use Rattle.turns.specs.OneTurn.{Taken, turnAt}
-use Rattle.turns.specs.EveryTurn.{metAt}
-use Rattle.turns.proofs.OneTurn.{turns-split, TurnCase, ends, closes, alone, turn-case}
-use Rattle.turns.proofs.EveryTurn.{every-turn}
+use Rattle.rules.specs.Turns.{turns_from, words_in_all, NoneOpen}
+use Rattle.turns.specs.OneTurn.{Taken, turn_at}
+use Rattle.turns.specs.EveryTurn.{met_at}
+use Rattle.turns.proofs.OneTurn.{turns-split, TurnCase, ends, closes, alone, turn_case}
+use Rattle.turns.proofs.EveryTurn.{every_turn}
 
 -- asked at an index inside a trace: how many words are taken, which turns are left, that no pair is open behind, and when none is taken
 pub record Answered (words : List ℕ) (at : ℕ) (r : Taken) : Type 0 where
-  pub size : r.next ≡ at + length (wordsInAll r.turn)
+  pub size : r.next ≡ at + length (words_in_all r.turn)
   pub inside : r.next ≤ length words
-  pub rest : turnsFrom at (drop at words) ≡ r.turn ++ turnsFrom r.next (drop r.next words)
-  pub none_open : NoneOpen (metAt words at) → r.next < length words → NoneOpen (metAt words r.next)
+  pub rest : turns_from at (drop at words) ≡ r.turn ++ turns_from r.next (drop r.next words)
+  pub none_open : NoneOpen (met_at words at) → r.next < length words → NoneOpen (met_at words r.next)
   pub ended : r.turn ≡ [] → length words ≤ at
 
-pub answered : (words : List ℕ) (at : ℕ) (r : Taken) → at ≤ length words → r ≡ turnAt words at → Answered words at r
+pub answered : (words : List ℕ) (at : ℕ) (r : Taken) → at ≤ length words → r ≡ turn_at words at → Answered words at r
 answered words at r h e =
     subst⁻¹ (Answered words at) e
     (record {
       size = refl;
-      inside = inside (turn-case words at);
+      inside = inside (turn_case words at);
       rest = turns-split words at;
-      none_open = every-turn.none_open words at;
-      ended = ended (turn-case words at);
+      none_open = every_turn.none_open words at;
+      ended = ended (turn_case words at);
     })
   where
     inside : {r : Taken} → TurnCase words at r → r.next ≤ length words

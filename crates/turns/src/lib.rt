@@ -1,7 +1,7 @@
 // A trace turn by turn, for whoever goes through its words pair by pair: both words of a closed pair, or else a single word.
 ghost use Rattle.std.specs.Prelude.{◌≡◌};
-ghost use Rattle.rules.specs.Turns.{opensPair};
-ghost use Rattle.turns.specs.OneTurn.{turnOutcome, turnAt};
+ghost use Rattle.rules.specs.Turns.{opens_pair};
+ghost use Rattle.turns.specs.OneTurn.{turn_outcome, turn_at};
 
 use command::Pair;
 use command::pins::{CS, PD, high};
@@ -19,14 +19,14 @@ pub enum TurnAnswer {
 
 // Whether a word opens a pair, where none is open before it.
 pub fn opens_pair(word: u32) -> bool
-    ensures { result ≡ opensPair word }
+    ensures { result ≡ opens_pair word }
 {
     high(word, PD) & !high(word, CS)
 }
 
 // The turn from an index on, where no pair is open before the word there; where one is, the answer is as if none were.
 pub fn turn(words: &[u32], at: usize) -> TurnAnswer
-    ensures { turnOutcome at result ≡ turnAt words.now at }
+    ensures { turn_outcome at result ≡ turn_at words.now at }
 {
     if words.len() <= at {
         return TurnAnswer::End;

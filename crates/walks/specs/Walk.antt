@@ -1,12 +1,12 @@
 -- What an advance of a walk does, for every state there is; and a whole walk, beside the published verdict (RULES 5.5).
 use Rattle.std.specs.Prelude.{ℕ, zero, suc, ◌≤◌, ◌<◌, ◌≡◌, cond, List, [], ◌∷◌, length, get_or, ltb}
 use Rattle.basics.specs.Outcome.{Outcome, value, refused, require, given}
-use Rattle.basics.specs.Numbers.{refusalNumber, limit}
-use Rattle.config.specs.Configuration.{timingOf}
+use Rattle.basics.specs.Numbers.{refusal_number, limit}
+use Rattle.config.specs.Configuration.{timing_of}
 use Rattle.config.specs.declared.Config.{Config}
 use Rattle.config.specs.declared.Timing.{Timing}
 use Rattle.rules.specs.Verdict.{Judgement, accepted, breach, judge}
-use Rattle.consistency.specs.Consistency.{clockFits}
+use Rattle.consistency.specs.Consistency.{clock_fits}
 use Rattle.checker.specs.Steps.{Step, fresh, step_of}
 use Rattle.checker.specs.declared.checker.Checker.{Checker}
 use Rattle.walks.specs.declared.Moved.{Moved}
@@ -20,11 +20,11 @@ pub data Reached : Type 0 where
   ended : Reached
 
 -- what an answer is in the paper's terms
-abbrev pub progressOutcome : Progress → Outcome Reached
-progressOutcome Passed = value passed
-progressOutcome (InBreach b) = value (breached b.clock b.number)
-progressOutcome (Refused r) = refused (refusalNumber r)
-progressOutcome End = value ended
+abbrev pub progress_outcome : Progress → Outcome Reached
+progress_outcome Passed = value passed
+progress_outcome (InBreach b) = value (breached b.clock b.number)
+progress_outcome (Refused r) = refused (refusal_number r)
+progress_outcome End = value ended
 
 -- an advance's answer, and the state that it leaves
 pub record Move : Type 0 where
@@ -33,29 +33,29 @@ pub record Move : Type 0 where
 
 -- what `next_word`, and `advance_through` of `lending`, return, as these two
 abbrev pub moved : Moved → Move
-moved r = record { outcome = progressOutcome r.progress; after = r.checker }
+moved r = record { outcome = progress_outcome r.progress; after = r.checker }
 
 -- the state stays, and so does the word that is the next
 abbrev pub staying : Checker → Outcome Reached → Move
 staying s o = record { outcome = o; after = s }
 
 -- of a single word, accepted says that it passed
-abbrev pub ofWord : Outcome Judgement → Outcome Reached
-ofWord (value accepted) = value passed
-ofWord (value (breach k n)) = value (breached k n)
-ofWord (refused n) = refused n
+abbrev pub of_word : Outcome Judgement → Outcome Reached
+of_word (value accepted) = value passed
+of_word (value (breach k n)) = value (breached k n)
+of_word (refused n) = refused n
 
 -- what the step at the next word is in a walk
 abbrev pub examined : Step → Move
-examined r = record { outcome = ofWord r.outcome; after = r.after }
+examined r = record { outcome = of_word r.outcome; after = r.after }
 
 -- with no word left: the sheet's refusals, then 19, then end, ahead of 23 and 24 (RULES 7.1)
-abbrev pub atEnd : Checker → Outcome Reached
-atEnd s = given (timingOf s.config) (λ _. require (clockFits s.clock s.met s.stamps) 19 (value ended))
+abbrev pub at_end : Checker → Outcome Reached
+at_end s = given (timing_of s.config) (λ _. require (clock_fits s.clock s.met s.stamps) 19 (value ended))
 
 -- an advance: the word at the clock is judged as a step judges it, refusals included; with no word left nothing changes
 abbrev pub move_of : Checker → List ℕ → Move
-move_of s ws = cond (ltb s.clock (length ws)) (examined (step_of s (get_or ws s.clock 0))) (staying s (atEnd s))
+move_of s ws = cond (ltb s.clock (length ws)) (examined (step_of s (get_or ws s.clock 0))) (staying s (at_end s))
 
 -- what the contracts of `next_word`, and of `advance_through` of `lending`, say of the result r
 abbrev pub MovePromised : Checker → List ℕ → Moved → Type 0
@@ -79,9 +79,9 @@ walking zero s ws = value passed
 walking (suc n) s ws = let rest = walking n (move_of s ws).after ws in unless (move_of s ws).outcome rest
 
 -- where a whole walk stops, by the verdict on its words
-abbrev pub stopOf : Judgement → Reached
-stopOf accepted = ended
-stopOf (breach k n) = breached k n
+abbrev pub stop_of : Judgement → Reached
+stop_of accepted = ended
+stop_of (breach k n) = breached k n
 
 -- a call on a state: one word is examined, or a walk over some words is advanced
 pub data CheckerCall : Type 0 where
@@ -94,21 +94,21 @@ after_call s (step w) = (step_of s w).after
 after_call s (advance ws) = (move_of s ws).after
 
 -- the state after a list of calls
-abbrev pub afterCalls : Checker → List CheckerCall → Checker
-afterCalls s [] = s
-afterCalls s (x ∷ xs) = afterCalls (after_call s x) xs
+abbrev pub after_calls : Checker → List CheckerCall → Checker
+after_calls s [] = s
+after_calls s (x ∷ xs) = after_calls (after_call s x) xs
 
 -- the theorem that joins walks to the published rules
 pub record Walk : Type 0 where
   -- for every accepted configuration and every trace that the whole check takes: a fresh walk that is advanced until it does not pass, at
   -- the latest one advance after its last word, gives the published verdict
-  pub verdict : (c : Config) (t : Timing) (ws : List ℕ) (n : ℕ) → timingOf c ≡ value t → length ws ≤ limit → length ws < n
-      → walking n (fresh c) ws ≡ value (stopOf (judge t ws))
+  pub verdict : (c : Config) (t : Timing) (ws : List ℕ) (n : ℕ) → timing_of c ≡ value t → length ws ≤ limit → length ws < n
+      → walking n (fresh c) ws ≡ value (stop_of (judge t ws))
   -- it says end where its words have run out, and nowhere else
-  pub end-there : (c : Config) (t : Timing) (ws : List ℕ) (n : ℕ) → timingOf c ≡ value t → (advanced n (fresh c) ws).clock ≡ length ws
+  pub end-there : (c : Config) (t : Timing) (ws : List ℕ) (n : ℕ) → timing_of c ≡ value t → (advanced n (fresh c) ws).clock ≡ length ws
       → (move_of (advanced n (fresh c) ws) ws).outcome ≡ value ended
   pub only-there : (c : Config) (ws : List ℕ) (n : ℕ) → (move_of (advanced n (fresh c) ws) ws).outcome ≡ value ended
       → (advanced n (fresh c) ws).clock ≡ length ws
   -- whatever calls were made on a fresh state, on any sheet, the next one is not refused by 19 (RULES 6.19)
-  pub never-19 : (c : Config) (xs : List CheckerCall) (ws : List ℕ) → (move_of (afterCalls (fresh c) xs) ws).outcome ≡ refused 19 → ⊥
-  pub step-never-19 : (c : Config) (xs : List CheckerCall) (w : ℕ) → (step_of (afterCalls (fresh c) xs) w).outcome ≡ refused 19 → ⊥
+  pub never-19 : (c : Config) (xs : List CheckerCall) (ws : List ℕ) → (move_of (after_calls (fresh c) xs) ws).outcome ≡ refused 19 → ⊥
+  pub step-never-19 : (c : Config) (xs : List CheckerCall) (w : ℕ) → (step_of (after_calls (fresh c) xs) w).outcome ≡ refused 19 → ⊥

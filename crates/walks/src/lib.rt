@@ -1,7 +1,7 @@
 // One advance of a walk over lent words (RULES 5.5), for whoever holds the words and the checker that it has reached.
 ghost use Rattle.std.specs.Prelude.{◌≡◌};
-ghost use Rattle.checker.specs.Steps.{verdictOutcome};
-ghost use Rattle.walks.specs.Walk.{progressOutcome, ofWord, atEnd, MovePromised};
+ghost use Rattle.checker.specs.Steps.{verdict_outcome};
+ghost use Rattle.walks.specs.Walk.{progress_outcome, of_word, at_end, MovePromised};
 
 use basics::Refusal;
 use checker::{Breach, Checker, Verdict};
@@ -25,7 +25,7 @@ pub struct Moved {
 
 // What the verdict on a single word is in a walk.
 fn of_word(verdict: Verdict) -> Progress
-    ensures { progressOutcome result ≡ ofWord (verdictOutcome verdict) }
+    ensures { progress_outcome result ≡ of_word (verdict_outcome verdict) }
 {
     match verdict {
         Verdict::Accepted => Progress::Passed,
@@ -36,7 +36,7 @@ fn of_word(verdict: Verdict) -> Progress
 
 // What an advance answers with no word left.
 fn at_end(checker: Checker) -> Progress
-    ensures { progressOutcome result ≡ atEnd checker }
+    ensures { progress_outcome result ≡ at_end checker }
 {
     let config = checker.config;
     let stamps = checker.stamps;

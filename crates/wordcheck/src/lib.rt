@@ -1,8 +1,8 @@
 // The whole check of a trace: one pass, and nothing tested inside it that the door has tested.
 ghost use Rattle.std.specs.Prelude.{◌≡◌, ◌≤◌, length};
 ghost use Rattle.basics.specs.Outcome.{value};
-ghost use Rattle.rules.specs.Verdict.{judge, checkOf};
-ghost use Rattle.checker.specs.Steps.{verdictOutcome};
+ghost use Rattle.rules.specs.Verdict.{judge, check_of};
+ghost use Rattle.checker.specs.Steps.{verdict_outcome};
 
 use basics::{LIMIT, Refusal};
 use breaches::word_breach;
@@ -12,7 +12,7 @@ use stamps::{DESL, Timestamps, next_met};
 
 fn judged(timing: Timing, words: &[u32]) -> Verdict
     requires { length words.now ≤ 16777216 }
-    ensures { verdictOutcome result ≡ value (judge timing words.now) }
+    ensures { verdict_outcome result ≡ value (judge timing words.now) }
 {
     let figures = timing.figures();
     let four = figures.four;
@@ -34,7 +34,7 @@ fn judged(timing: Timing, words: &[u32]) -> Verdict
 
 // The verdict on a trace: the configuration's refusals, then 24 for more than 16,777,216 words.
 pub fn check(config: Config, words: &[u32]) -> Verdict
-    ensures { verdictOutcome result ≡ checkOf config words.now }
+    ensures { verdict_outcome result ≡ check_of config words.now }
 {
     match config.timing() {
         TimingAnswer::Refused(why) => Verdict::Refused(why),

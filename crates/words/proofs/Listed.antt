@@ -9,7 +9,7 @@ use lib.Dec.{ltb}
 use lib.ListN.{length, get_or, take, drop, length-take, length-drop}
 use lib.Seq.{take_all, get_or-take, get_or-drop, drop-drop}
 use native.Mathlib.Nat.{add-zero}
-use Rattle.words.specs.Words.{wordBy, words_of, first_word, word_at, pairTo, PairTo}
+use Rattle.words.specs.Words.{word_by, words_of, first_word, word_at, pair_to, PairTo}
 
 pub words-length : (bytes : List ℕ) → length (words_of bytes) ≡ length bytes / 4
 words-length [] = refl
@@ -25,7 +25,7 @@ place bytes i j e = ap (λ k. get_or bytes k 0) e
 
 listed : (bytes : List ℕ) (i : ℕ) → i < length bytes / 4
     → get_or (words_of bytes) i 0
-    ≡ wordBy (get_or bytes (4 * i) 0) (get_or bytes (4 * i + 1) 0) (get_or bytes (4 * i + 2) 0) (get_or bytes (4 * i + 3) 0)
+    ≡ word_by (get_or bytes (4 * i) 0) (get_or bytes (4 * i + 1) 0) (get_or bytes (4 * i + 2) 0) (get_or bytes (4 * i + 3) 0)
 listed [] i h = absurd (omega arith)
 listed (a ∷ []) i h = absurd (omega arith)
 listed (a ∷ b ∷ []) i h = absurd (omega arith)
@@ -62,11 +62,11 @@ second-of-part bytes i pos h =
     rw (all, left, drop-drop 4 (4 * (i - 1)) bytes, at) (first-of-part bytes i h)
 
 -- the two words of a pair, where they are both there, and 0 where they are not
-pub pair-there : (bytes : List ℕ) (i : ℕ) → 0 < i → i < length bytes / 4 → pairTo bytes i ≡ word_at bytes (i - 1) + word_at bytes i * 2 ^ 32
+pub pair-there : (bytes : List ℕ) (i : ℕ) → 0 < i → i < length bytes / 4 → pair_to bytes i ≡ word_at bytes (i - 1) + word_at bytes i * 2 ^ 32
 pair-there bytes i pos h =
     ap₂ (λ b c. cond (b && c) (word_at bytes (i - 1) + word_at bytes i * 2 ^ 32) 0) (lt-ltb 0 i pos) (lt-ltb i (length bytes / 4) h)
 
-pub pair-none : (bytes : List ℕ) (i : ℕ) → (0 < i → i < length bytes / 4 → ⊥) → pairTo bytes i ≡ 0
+pub pair-none : (bytes : List ℕ) (i : ℕ) → (0 < i → i < length bytes / 4 → ⊥) → pair_to bytes i ≡ 0
 pair-none bytes i none = by (ltb 0 i) refl (ltb i (length bytes / 4)) refl
   where
     by : (b : Bool) → ltb 0 i ≡ b → (c : Bool) → ltb i (length bytes / 4) ≡ c

@@ -1,7 +1,7 @@
 // An operation is written to its pair of words. Every pin that carries nothing is low (RULES 2.7).
 ghost use Rattle.std.specs.Prelude.{◌≡◌, cond, not, ◌&&◌, ◌+◌, ◌*◌, ◌≤◌, eqb};
 ghost use Rattle.command.specs.Pins.{level};
-ghost use Rattle.writing.specs.Writing.{requestFits, operationFits, accessPair, pair_of, writePair};
+ghost use Rattle.writing.specs.Writing.{request_fits, operation_fits, access_pair, pair_of, write_pair};
 ghost use Rattle.writing.specs.Answers.{writeOutcome};
 
 use basics::Refusal;
@@ -19,7 +19,7 @@ pub enum WriteAnswer {
 
 // Every field of the request is in its range.
 pub fn request_fits(timing: Timing, request: Request) -> bool
-    ensures { result ≡ requestFits timing request }
+    ensures { result ≡ request_fits timing request }
 {
     let figures = timing.figures();
     let wide = figures.organisation == 16;
@@ -37,7 +37,7 @@ pub fn request_fits(timing: Timing, request: Request) -> bool
 
 // Every field of the operation is in its range.
 fn operation_fits(timing: Timing, operation: Operation) -> bool
-    ensures { result ≡ operationFits timing operation }
+    ensures { result ≡ operation_fits timing operation }
 {
     match operation {
         Operation::Access(request) => request_fits(timing, request),
@@ -59,7 +59,7 @@ fn lane(driven: bool, long: bool, words: u32, vw0: u32, vw1: u32) -> u32
 }
 
 fn access(timing: Timing, request: Request) -> Pair
-    ensures { result ≡ accessPair timing request }
+    ensures { result ≡ access_pair timing request }
 {
     let figures = timing.figures();
     let long = figures.bl == 4;
@@ -98,7 +98,7 @@ pub fn encode(timing: Timing, operation: Operation) -> Pair
 
 // Writes an operation: the configuration's refusals, then 26 for a field out of range.
 pub fn write_pair(config: Config, operation: Operation) -> WriteAnswer
-    ensures { writeOutcome result ≡ writePair config operation }
+    ensures { writeOutcome result ≡ write_pair config operation }
 {
     match config.timing() {
         TimingAnswer::Refused(why) => WriteAnswer::Refused(why),

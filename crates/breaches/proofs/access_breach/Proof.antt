@@ -84,7 +84,7 @@ returns c =
     reserved.lane-reserved.ensures
     tested.before.before.before.before.unready.ensures
     (rw (reserved.before.bank.ensures.0, figures) at tested.before.before.before.near.ensures)
-    (rw opening.high.ensures at tested.before.before.too-close.ensures)
+    (rw opening.high.ensures at tested.before.before.too_close.ensures)
     (rw figures at tested.before.near2.ensures)
     (rw figures at tested.near3.ensures))
 

@@ -4,14 +4,14 @@ use mathlib.Core.Path.{◌≡◌, sym, ◌∙◌, ap}
 use mathlib.Core.Bool.{true, false, not}
 use lib.Dec.{eqb}
 use Rattle.command.specs.Pairs.{selected}
-use Rattle.rules.specs.Breaches.{earlyAt}
+use Rattle.rules.specs.Breaches.{early_at}
 use borrow.Author.Rules.{rules}
 use Rattle.breaches.proofs.word_breach.Statement.{statement}
 use Rattle.breaches.proofs.word_breach.Tie as tie
 
 -- the number of rules 1 to 3
 early : (c : tie.After-early-breach) → let a = c.before.before.before.before.before.args in
-    c.early-breach.result ≡ earlyAt a.timing a.stamps a.clock a.first a.word
+    c.early-breach.result ≡ early_at a.timing a.stamps a.clock a.first a.word
 early c =
     rw (
       c.before.wrongly-low.ensures,
@@ -21,7 +21,7 @@ early c =
 
 -- what the two tests tell
 none-early : (c : tie.Else1) → let a = c.before.before.before.before.before.before.args in
-    eqb (earlyAt a.timing a.stamps a.clock a.first a.word) 0 ≡ true
+    eqb (early_at a.timing a.stamps a.clock a.first a.word) 0 ≡ true
 none-early c = rw (← early c.before) (eq-eqb c.before.early-breach.result 0 c.if1.false)
 
 opened : (c : tie.Then2) → selected c.before.before.before.before.before.before.before.before.args.first ≡ true

@@ -1,6 +1,6 @@
 -- The two parts of the published answer.
 use mathlib.Core.Path.{◌∙◌, ap}
-use Rattle.counts.specs.Counts.{countingOf}
+use Rattle.counts.specs.Counts.{counting_of}
 use Rattle.bulk.specs.Stored.{stored}
 use borrow.Author.Rules.{rules}
 use Rattle.bulk.proofs.bulk_count.Statement.{statement}
@@ -28,7 +28,7 @@ returns : tie.Need-returns
 returns c =
     let called = c.before.before.before.before.before.before in
     let a = called.before.before.before.before.args in
-    let counted = called.count-commands.ensures ∙ ap (λ s. countingOf s a.words.now) called.before.config-of.ensures in
+    let counted = called.count-commands.ensures ∙ ap (λ s. counting_of s a.words.now) called.before.config-of.ensures in
     let counts = c.before.before.before.before.before.Counts-of.ensures in (
       c.number_of_lem.ensures ∙ ap (λ k. k.number) counted,
       c.before.before.before.store.ensures ∙ ap (λ k. stored k a.places.now) (counts ∙ ap (λ k. k.counts) counted),

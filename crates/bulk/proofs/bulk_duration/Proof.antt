@@ -1,8 +1,8 @@
 -- The two parts of the published answer.
 use mathlib.Core.Path.{◌∙◌, ap}
 use borrow.Author.Rules.{rules}
-use Rattle.duration.specs.Duration.{durationOf}
-use Rattle.bulk.specs.Timed.{timedNumber, timedIn}
+use Rattle.duration.specs.Duration.{duration_of}
+use Rattle.bulk.specs.Timed.{timed_number, timed_in}
 use Rattle.bulk.proofs.bulk_duration.Statement.{statement}
 use Rattle.bulk.proofs.bulk_duration.Tie as tie
 
@@ -22,8 +22,8 @@ returns : tie.Need-returns
 returns c =
     let d = c.before.before.before in
     let a = d.before.before.args in
-    let timed = d.trace-duration.ensures ∙ ap (λ s. durationOf s a.count) d.before.config-of.ensures in
-    (c.refusal-of.ensures ∙ ap timedNumber timed, c.before.put-time.ensures ∙ ap (λ o. timedIn o a.places.now) timed)
+    let timed = d.trace-duration.ensures ∙ ap (λ s. duration_of s a.count) d.before.config-of.ensures in
+    (c.refusal-of.ensures ∙ ap timed_number timed, c.before.put-time.ensures ∙ ap (λ o. timed_in o a.places.now) timed)
 
 pub bulk-duration-spec : {M : Type 1} → statement M
 bulk-duration-spec =

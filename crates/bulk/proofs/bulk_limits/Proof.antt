@@ -1,9 +1,9 @@
 -- The two parts of the published answer.
 use mathlib.Core.Path.{◌∙◌, ap}
 use borrow.Author.Rules.{rules}
-use Rattle.limits.specs.Limits.{withinOf}
-use Rattle.bulk.specs.Numbers.{sheetOf, findingNumber}
-use Rattle.bulk.specs.Shown.{shownIn}
+use Rattle.limits.specs.Limits.{within_of}
+use Rattle.bulk.specs.Numbers.{sheet_of, finding_number}
+use Rattle.bulk.specs.Shown.{shown_in}
 use Rattle.bulk.proofs.bulk_limits.Statement.{statement}
 use Rattle.bulk.proofs.bulk_limits.Tie as tie
 
@@ -30,9 +30,9 @@ returns c =
     let words = a.words.now in
     let found =
     c.before.before.before.check-within.ensures
-    ∙ ap (λ x. withinOf x c.before.before.before.before.config-of2.result words) least
-    ∙ ap (λ y. withinOf (sheetOf a.least.now) y words) greatest in
-    (c.of-answer.ensures ∙ ap findingNumber found, c.before.show.ensures ∙ ap (λ o. shownIn o a.shown.now) found)
+    ∙ ap (λ x. within_of x c.before.before.before.before.config-of2.result words) least
+    ∙ ap (λ y. within_of (sheet_of a.least.now) y words) greatest in
+    (c.of-answer.ensures ∙ ap finding_number found, c.before.show.ensures ∙ ap (λ o. shown_in o a.shown.now) found)
 
 pub bulk-limits-spec : {M : Type 1} → statement M
 bulk-limits-spec =

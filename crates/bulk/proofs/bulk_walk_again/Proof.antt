@@ -1,7 +1,7 @@
 -- The number of one advance more, from the state that the walk has left.
 use mathlib.Core.Path.{◌∙◌, ap}
 use Rattle.walks.specs.Walk.{move_of}
-use Rattle.bulk.specs.Numbers.{walkNumber}
+use Rattle.bulk.specs.Numbers.{walk_number}
 use borrow.Author.Rules.{rules}
 use Rattle.bulk.proofs.bulk_walk_again.Statement.{statement}
 use Rattle.bulk.proofs.bulk_walk_again.Tie as tie
@@ -23,8 +23,8 @@ returns c =
     let words = c.before.before.before.before.before.before.args.words.now in
     let stopped = rw c.before.before.before.before.config-of.ensures at c.before.before.before.walk.ensures in
     c.of-progress.ensures
-    ∙ ap (λ m. walkNumber m.outcome) c.before.advance-through.ensures
-    ∙ ap (λ m. walkNumber (move_of m.after words).outcome) stopped
+    ∙ ap (λ m. walk_number m.outcome) c.before.advance-through.ensures
+    ∙ ap (λ m. walk_number (move_of m.after words).outcome) stopped
 
 pub bulk-walk-again-spec : {M : Type 1} → statement M
 bulk-walk-again-spec =

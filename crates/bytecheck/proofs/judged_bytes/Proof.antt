@@ -10,7 +10,7 @@ use Rattle.config.specs.declared.Timing.{Timing}
 use Rattle.words.specs.Words.{words_of}
 use Rattle.words.proofs.Listed.{words-length, word-listed}
 use Rattle.rules.specs.Verdict.{accepted, judge}
-use Rattle.rules.proofs.Words.{run_is, run-breaches, run_ends}
+use Rattle.rules.proofs.Words.{run_is, run_breaches, run_ends}
 use Rattle.bytecheck.specs.Passed.{Passes}
 use Rattle.bytecheck.specs.declared.place.Place.{Place}
 use Rattle.bytecheck.proofs.Passing.{passed-onward, run_from, passes-run, passed-run}
@@ -100,7 +100,7 @@ returns c =
     let w = tested.before in
     let p = at w in
     let stopped =
-    run-breaches (timing p) (place p).stamps (place p).met (words_of (bytes p)) (place p).clock (inside w) (word w)
+    run_breaches (timing p) (place p).stamps (place p).met (words_of (bytes p)) (place p).clock (inside w) (word w)
     tested.word-breach.ensures c.if3.true in
     ap value (sym (reached p ∙ stopped))
 

@@ -4,7 +4,7 @@ use mathlib.Core.Path.{◌≡◌, refl, sym, ◌∙◌, ap}
 use native.Mathlib.Omega.{arith}
 use borrow.Author.Rules.{rules}
 use lib.ListN.{length}
-use Rattle.turns.specs.OneTurn.{turnOutcome}
+use Rattle.turns.specs.OneTurn.{turn_outcome}
 use Rattle.turns.specs.declared.TurnAnswer.{TurnAnswer}
 use Rattle.turns.proofs.Answered.{Answered, answered}
 use Rattle.counts.proofs.Tallying.{Tallying, begins, goes_on, ends}
@@ -25,11 +25,11 @@ turn-requires c κs = search rules
 
 -- what the answer says of the turns that are left
 told : (c : tie.After-turn invariant-loop decreases-loop) {answer : TurnAnswer} → c.turn.result ≡ answer
-    → Answered c.before.before.before.args.words.now c.before.loop.at (turnOutcome c.before.loop.at answer)
+    → Answered c.before.before.before.args.words.now c.before.loop.at (turn_outcome c.before.loop.at answer)
 told c {answer} e =
     let at = c.before.loop.at in
-    answered c.before.before.before.args.words.now at (turnOutcome at answer) c.before.loop.invariant.inside
-    (ap (turnOutcome at) (sym e) ∙ c.turn.ensures)
+    answered c.before.before.before.args.words.now at (turn_outcome at answer) c.before.loop.invariant.inside
+    (ap (turn_outcome at) (sym e) ∙ c.turn.ensures)
 
 enum-known-pair : tie.Need-enum-known-pair invariant-loop decreases-loop
 enum-known-pair c = search rules

@@ -2,8 +2,8 @@
 use Prim.Native.Nat.{◌≤◌}
 use native.Mathlib.Omega.{arith}
 use borrow.Author.Rules.{rules}
-use Rattle.reading.specs.Reading.{operationOf}
-use Rattle.reading.proofs.Data.{burst-bound}
+use Rattle.reading.specs.Reading.{operation_of}
+use Rattle.reading.proofs.Data.{burst_bound}
 use Rattle.counts.proofs.with_pair.Statement.{statement}
 use Rattle.counts.proofs.with_pair.Tie as tie
 
@@ -44,7 +44,7 @@ add-sum : tie.Need-overflow-add-sum
 add-sum c =
     let called = c.before.before.before.before.before.before.before.before.before.before in
     let a = called.before.before.before.args in
-    let bound = burst-bound a.timing (operationOf a.timing a.pair.first a.pair.second) in
+    let bound = burst_bound a.timing (operation_of a.timing a.pair.first a.pair.second) in
     let few : called.burst.result.0 ≤ 2 = rw called.burst.ensures (omega arith) in
     search rules
 

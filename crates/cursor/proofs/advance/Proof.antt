@@ -46,10 +46,10 @@ use Rattle.checker.proofs.checker.Checker.TheLaws as K'
 use Rattle.walks.specs.Walk.{MovePromised}
 use Rattle.cursor.specs.declared.TraceCursor.{TraceCursor}
 use Rattle.walks.specs.declared.Moved.{Moved}
-use Rattle.borrowed.proofs.Locals.{Blocks, env, Content, room, holds, locals, cell, begins, aside, freed, held, held-field, sets, lands-in}
+use Rattle.borrowed.proofs.Locals.{Blocks, env, Content, room, holds, locals, cell, begins, aside, freed, held, held_field, sets, lands_in}
 use Rattle.borrowed.proofs.Behind.{Known, typed, opened, closed, told, reached}
-use Rattle.cursor.proofs.Cursors.{α, D, L, Cursor, with-checker, changed, words_val, checkerVal, cursorVal}
-use Rattle.cursor.proofs.Cursors.{checker-is, progress-made, progress-typed, moved-typed, cursor-typed}
+use Rattle.cursor.proofs.Cursors.{α, D, L, Cursor, with_checker, changed, words_val, checker_val, cursor_val}
+use Rattle.cursor.proofs.Cursors.{checker_is, progress_made, progress-typed, moved-typed, cursor_typed}
 use Rattle.cursor.specs.contracts.TraceCursor as T
 use Rattle.cursor.proofs.TraceCursor.TheLaws as T'
 use Rattle.walks.specs.contracts.Moved as N
@@ -103,7 +103,7 @@ module _ {M : Type 1} {𝓤 : Ura M} (𝓛 : Logic 𝓤) (mem : Memory → SProp
 
     -- what the struct owns, and the token of its words' lifetime
     abbrev Own : Fml
-    Own = (Cursor κ').own_val h (cursorVal κ' h ∷ [])
+    Own = (Cursor κ').own_val h (cursor_val κ' h ∷ [])
 
     abbrev Token : Item 𝓤
     Token = ‵ (flft κ' q') ⊛ ‵ ftrue
@@ -113,24 +113,24 @@ module _ {M : Type 1} {𝓤 : Ura M} (𝓛 : Logic 𝓤) (mem : Memory → SProp
     Found m = MovePromised h.checker h.words.now m
 
     abbrev h' : Moved → TraceCursor
-    h' m = with-checker h m.checker
+    h' m = with_checker h m.checker
 
     abbrev to : NextWord.Ghost
-    to = (((κ', tt), (q', tt), tt, (h.words, (h.checker, tt)), (words_val h.words ∷ [], (checkerVal h.checker ∷ [], tt))), tt)
+    to = (((κ', tt), (q', tt), tt, (h.words, (h.checker, tt)), (words_val h.words ∷ [], (checker_val h.checker ∷ [], tt))), tt)
 
     -- what the struct owns gives what the callee asks, and is kept
     apart : Sq 𝓛 (‵ Own ∷ Token ∷ []) (prop (sep 𝓤 (NextWord.pre to) (sem 𝓛 Own)))
     apart =
-        use1 𝓛 (‵ Own ⊛ ‵ Own) ((LL.copy (D κ') (T'.the_copy (α κ')) 𝓛).twice h (cursorVal κ' h ∷ [])) $ split ! $
-        use1 𝓛 (given (cursorVal κ' h ∷ [] ≡ cursorVal κ' h ∷ []) (‵ (all_own (D κ').parts (L κ') vd)))
-        (own_open 𝓛 (D κ') (L κ') vd (cursorVal κ' h)) $ learn ! (λ _.
+        use1 𝓛 (‵ Own ⊛ ‵ Own) ((LL.copy (D κ') (T'.the_copy (α κ')) 𝓛).twice h (cursor_val κ' h ∷ [])) $ split ! $
+        use1 𝓛 (given (cursor_val κ' h ∷ [] ≡ cursor_val κ' h ∷ []) (‵ (all_own (D κ').parts (L κ') vd)))
+        (own_open 𝓛 (D κ') (L κ') vd (cursor_val κ' h)) $ learn ! (λ _.
         -- [what the fields own; what the struct owns; the token]
         move ! (2 ∷ 0 ∷ []) $ use2 𝓛 (raw (NextWord.pre to))
         (qed 𝓛 (Token ∷ ‵ (all_own (D κ').parts (L κ') vd) ∷ []) ∵ join ! $ frame ! $ done !) $ frame ! $ done !)
 
     -- what is known of the answer's parts
     parts : (m : Moved) → Known N.the_type N'.the_laws m
-        → Is P.the_row m.progress (pv m ∷ []) × Is K.the_row m.checker (checkerVal m.checker ∷ [])
+        → Is P.the_row m.progress (pv m ∷ []) × Is K.the_row m.checker (checker_val m.checker ∷ [])
     parts m is = let owed = LL.owed N.the_type N'.the_laws m _ is in (owed.0, owed.1.0)
 
     exits : (m : Moved) → Is P.the_row m.progress (pv m ∷ []) → Found m
@@ -140,7 +140,7 @@ module _ {M : Type 1} {𝓤 : Ura M} (𝓛 : Logic 𝓤) (mem : Memory → SProp
         (ends_at 𝓛 advance.ended stayed (advance.clauses 𝓛 mem run) (((κ, (κ', tt)), (q, (q', tt)), bounds, (ref h, tt), at), tt)
         (pv m) m.progress (h' m, tt) (tt, tt)) $ says ! (refl, e) $
         move ! (1 ∷ 2 ∷ []) $ join ! $ frame ! $ nothing ! $ move ! (1 ∷ 0 ∷ []) $ fjoin ! $
-        owned ! P.the_row (Is P.the_row) (progress-made 𝓛) m.progress _ is $ move ! (1 ∷ 0 ∷ []) $ done !
+        owned ! P.the_row (Is P.the_row) (progress_made 𝓛) m.progress _ is $ move ! (1 ∷ 0 ∷ []) $ done !
 
     -- ---- the walk, from its last step to its first
     module _ (C : Calls 𝓤 H) (Λ : Loops 𝓤 H) (fm : FmC 𝓤 H 𝓛.laws C) (known : Triple 𝓤 (C #next) NextWord) where
@@ -154,41 +154,41 @@ module _ {M : Type 1} {𝓤 : Ura M} (𝓛 : Logic 𝓤) (mem : Memory → SProp
         -- the checker of the answer is stored in the struct, the borrow is closed, and the answer's progress is returned
         stores : (m : Moved) → Found m → Known N.the_type N'.the_laws m
             → From body.t-4
-            (Token ∷ ‵ Own ∷ ‵ (fat full_share (T'.mir erased) b o (cursorVal κ' h)) ∷ ‵ (fobor κ q (Opened (laid (Cursor κ')) b o γ))
+            (Token ∷ ‵ Own ∷ ‵ (fat full_share (T'.mir erased) b o (cursor_val κ' h)) ∷ ‵ (fobor κ q (Opened (laid (Cursor κ')) b o γ))
             ∷ ‵ (fobs γ ((Cursor κ').coded.code h)) ∷ ‵ (fauth γ ((Cursor κ').coded.code h)) ∷ [])
             (room ∷ holds (vptr b o) ∷ holds (LL.val N.the_type N'.the_laws m) ∷ holds (words_val h.words) ∷ holds
-            (checkerVal h.checker) ∷ [])
+            (checker_val h.checker) ∷ [])
         stores m e is =
-            assigns ! (of_opd ! (held-field ! (cell 6 2) refl (sub ! 1 refl (whole !))))
+            assigns ! (of_opd ! (held_field ! (cell 6 2) refl (sub ! 1 refl (whole !))))
             (from ! (hop ! (look ! (cell 6 1) refl) (fld ! refl (stop !))))
             (store_in ! 2 (sub ! 1 refl (whole !)) (typed 𝓛 K.the_type K'.the_laws m.checker (parts m is).1)) $
-            sets ! (cell 6 0) refl (of_opd ! (held-field ! (cell 6 2) refl (sub ! 0 refl (whole !))))
+            sets ! (cell 6 0) refl (of_opd ! (held_field ! (cell 6 2) refl (sub ! 0 refl (whole !))))
             (progress-typed 𝓛 m.progress _ (parts m is).0) $
-            move ! (2 ∷ []) $ use1 𝓛 (‵ (cell_at full_share (Cursor κ').mir (cursorVal κ' (h' m) ∷ []) b o))
-            (𝓛.laws.at_raw full_share (T'.mir erased) b o (cursorVal κ' (h' m))) $
-            move ! (2 ∷ []) $ use1 𝓛 (‵ ((Cursor κ').own_val (h' m) (cursorVal κ' (h' m) ∷ [])))
-            (changed 𝓛 κ' h (cursorVal κ' h) m.checker (parts m is).1) $ move ! (0 ∷ 1 ∷ 3 ∷ 4 ∷ 5 ∷ []) $
+            move ! (2 ∷ []) $ use1 𝓛 (‵ (cell_at full_share (Cursor κ').mir (cursor_val κ' (h' m) ∷ []) b o))
+            (𝓛.laws.at_raw full_share (T'.mir erased) b o (cursor_val κ' (h' m))) $
+            move ! (2 ∷ []) $ use1 𝓛 (‵ ((Cursor κ').own_val (h' m) (cursor_val κ' (h' m) ∷ [])))
+            (changed 𝓛 κ' h (cursor_val κ' h) m.checker (parts m is).1) $ move ! (0 ∷ 1 ∷ 3 ∷ 4 ∷ 5 ∷ []) $
             closed ! tt (D κ') (L κ') (h' m) $
             returns !
             (look ! (cell 3 0) refl) $ aside ! $ aside ! $ aside ! $ freed ! $ freed ! $ freed ! $ freed ! $ freed ! $ free0 ! $ drop ! $
             exits m (parts m is).0 e
 
         -- the words and the checker are read from the struct, and `next_word` is called on them
-        calls : Is (Cursor κ') h (cursorVal κ' h ∷ [])
+        calls : Is (Cursor κ') h (cursor_val κ' h ∷ [])
             → From body.t-1
-            (‵ (fat full_share (T'.mir erased) b o (cursorVal κ' h)) ∷ ‵ Own ∷ ‵ (fobor κ q (Opened (laid (Cursor κ')) b o γ))
+            (‵ (fat full_share (T'.mir erased) b o (cursor_val κ' h)) ∷ ‵ Own ∷ ‵ (fobor κ q (Opened (laid (Cursor κ')) b o γ))
             ∷ ‵ (fobs γ ((Cursor κ').coded.code h)) ∷ ‵ (fauth γ ((Cursor κ').coded.code h)) ∷ Token ∷ []) (room ∷ holds (vptr b o) ∷ [])
         calls was =
             sets ! (cell 6 3) refl
             (of_opd ! (load ! (from ! (hop ! (look ! (cell 6 1) refl) (fld ! refl (stop !)))) (look_in ! 0 (sub ! 0 refl (whole !)))))
-            (tt, (cursor-typed 𝓛 erased κ' h _ was).1.0) $
+            (tt, (cursor_typed 𝓛 erased κ' h _ was).1.0) $
             sets ! (cell 6 4) refl
             (of_opd ! (load ! (from ! (hop ! (look ! (cell 6 1) refl) (fld ! refl (stop !)))) (look_in ! 0 (sub ! 1 refl (whole !)))))
-            (typed 𝓛 K.the_type K'.the_laws h.checker (checker-is κ' h was)) $
+            (typed 𝓛 K.the_type K'.the_laws h.checker (checker_is κ' h was)) $
             move ! (1 ∷ 5 ∷ []) $ use2 𝓛 (raw (NextWord.pre to) ⊛ ‵ Own) apart.prf $ split ! $
             calls_at ! fm NextWord known to (and_then ! (held ! (cell 6 3) refl) (and_then ! (held ! (cell 6 4) refl) (no_more !))) (λ u.
             told ! u N.the_type N'.the_laws Token next.ended (κ', tt) (h.words, (h.checker, tt)) Found (λ m e is. drop ! $
-            lands-in ! (cell 6 2) refl (moved-typed 𝓛 m _ is) $ stores m e is))
+            lands_in ! (cell 6 2) refl (moved-typed 𝓛 m _ is) $ stores m e is))
 
       walk : ent 𝓤 (on_entry 𝓛 advance.signature (κ, (κ', tt)) (q, (q', tt)) (ref h, tt) at)
           (WpFn 𝓤 H C Λ code.function (vptr b o ∷ []) Post)
@@ -198,8 +198,8 @@ module _ {M : Type 1} {𝓤 : Ura M} (𝓛 : Logic 𝓤) (mem : Memory → SProp
           begins ! C Λ code.function (vptr b o ∷ []) _ ((tt, tt), tt) (λ bs.
           -- the borrow is opened
           move ! (cell 0 5 ∷ cell 1 5 ∷ cell 2 5 ∷ []) $ opened ! tt (D κ') (L κ') h (λ was.
-          move ! (1 ∷ []) $ use1 𝓛 (‵ (fat full_share (T'.mir erased) b o (cursorVal κ' h)))
-          (𝓛.laws.raw_at full_share (T'.mir erased) b o (cursorVal κ' h)) $
+          move ! (1 ∷ []) $ use1 𝓛 (‵ (fat full_share (T'.mir erased) b o (cursor_val κ' h)))
+          (𝓛.laws.raw_at full_share (T'.mir erased) b o (cursor_val κ' h)) $
           calls bs was))
 
 pub advance-spec : {M : Type 1} → stated.statement M

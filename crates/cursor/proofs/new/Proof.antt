@@ -46,9 +46,9 @@ use Rattle.checker.proofs.checker.Checker.fresh.Symbol as fresh-def
 use Rattle.checker.proofs.checker.Checker.fresh.Symbol.{name as #fresh}
 use Rattle.checker.proofs.checker.Checker.fresh.Met as fresh-thm
 use Rattle.cursor.specs.declared.TraceCursor.{TraceCursor}
-use Rattle.borrowed.proofs.Locals.{cell, begins, aside, freed, held, sets, lands-in}
-use Rattle.borrowed.proofs.Behind.{typed, owned-data, told, reached}
-use Rattle.cursor.proofs.Cursors.{Words, Both, kept, words_val, configVal, checkerVal, cursorVal, words-typed, cursor-typed}
+use Rattle.borrowed.proofs.Locals.{cell, begins, aside, freed, held, sets, lands_in}
+use Rattle.borrowed.proofs.Behind.{typed, owned_data, told, reached}
+use Rattle.cursor.proofs.Cursors.{Words, Both, kept, words_val, config_val, checker_val, cursor_val, words-typed, cursor_typed}
 use Rattle.cursor.specs.contracts.new.Key.{name as #new}
 use Rattle.cursor.specs.contracts.new as new
 use Rattle.cursor.proofs.new.Statement as stated
@@ -69,11 +69,11 @@ module _ {M : Type 1} {𝓤 : Ura M} (𝓛 : Logic 𝓤) (mem : Memory → SProp
     a = (s, (c, tt))
 
     abbrev at : List Val × (List Val × Unit {0})
-    at = (words_val s ∷ [], (configVal c ∷ [], tt))
+    at = (words_val s ∷ [], (config_val c ∷ [], tt))
 
     -- what the parameters own
     abbrev Had : Fml
-    Had = Both κ s F.the_row c (configVal c ∷ [])
+    Had = Both κ s F.the_row c (config_val c ∷ [])
 
     abbrev Post : Val → SProp 𝓤
     Post = (walk_of 𝓛 new.ended stayed (new.clauses 𝓛 mem run)).post (((κ, tt), (q, tt), tt, a, at), tt)
@@ -86,36 +86,36 @@ module _ {M : Type 1} {𝓤 : Ura M} (𝓛 : Logic 𝓤) (mem : Memory → SProp
     had k vss = fsep ((ShrSlice (named 0) κ u32).own_val s vss.0) (fsep ((K.the_row).own_val k vss.1.0) ftrue)
 
     exits : (k : Checker) → k ≡ fresh c
-        → Sq 𝓛 ((‵ (flft κ q) ⊛ ‵ ftrue) ∷ ‵ Had ∷ ‵ ((K.the_row).own_val k (checkerVal k ∷ [])) ∷ []) (prop (Post (cursorVal κ (made k))))
+        → Sq 𝓛 ((‵ (flft κ q) ⊛ ‵ ftrue) ∷ ‵ Had ∷ ‵ ((K.the_row).own_val k (checker_val k ∷ [])) ∷ []) (prop (Post (cursor_val κ (made k))))
     exits k e =
         suffices ! _ (ends_at 𝓛 new.ended stayed (new.clauses 𝓛 mem run) (((κ, tt), (q, tt), tt, a, at), tt)
-        (cursorVal κ (made k)) (made k) (tt, (tt, tt)) (tt, (tt, tt))) $ says ! (refl, e) $
+        (cursor_val κ (made k)) (made k) (tt, (tt, tt)) (tt, (tt, tt))) $ says ! (refl, e) $
         frame ! $ use1 𝓛 (‵ Had ⊛ ‵ (Words κ s)) (kept 𝓛 κ s F.the_row c _) $ split ! $ frame ! $
         -- [what words owns; what the checker owns]
         move ! (1 ∷ []) $ nothing ! $ move ! (1 ∷ 0 ∷ []) $ fjoin ! $ move ! (1 ∷ 0 ∷ []) $ fjoin ! $
-        by ! (makes 𝓛 (ShrSlice (named 0) κ u32 ∷ K.the_row ∷ []) (had k) (words_val s ∷ [], (checkerVal k ∷ [], tt)))
+        by ! (makes 𝓛 (ShrSlice (named 0) κ u32 ∷ K.the_row ∷ []) (had k) (words_val s ∷ [], (checker_val k ∷ [], tt)))
 
     -- what the callee's triple binds outside, and that the caller has what it asks
     abbrev to : Fresh.Ghost
-    to = ((tt, tt, tt, (c, tt), (configVal c ∷ [], tt)), tt)
+    to = ((tt, tt, tt, (c, tt), (config_val c ∷ [], tt)), tt)
 
-    goes : Sq 𝓛 (‵ ((F.the_row).own_val c (configVal c ∷ [])) ∷ []) (prop (Fresh.pre to))
+    goes : Sq 𝓛 (‵ ((F.the_row).own_val c (config_val c ∷ [])) ∷ []) (prop (Fresh.pre to))
     goes = nothing ! $ move ! (1 ∷ 0 ∷ []) $ join ! $ nothing ! $ join ! $ frame ! $ done !
 
     module _ (C : Calls 𝓤 H) (Λ : Loops 𝓤 H) (fm : FmC 𝓤 H 𝓛.laws C) (known : Triple 𝓤 (C #fresh) Fresh) where
-      walk : Is (ShrSlice (named 0) κ u32) s (words_val s ∷ []) → Is F.the_row c (configVal c ∷ [])
-          → ent 𝓤 (on_entry 𝓛 new.signature (κ, tt) (q, tt) a at) (WpFn 𝓤 H C Λ code.function (words_val s ∷ configVal c ∷ []) Post)
+      walk : Is (ShrSlice (named 0) κ u32) s (words_val s ∷ []) → Is F.the_row c (config_val c ∷ [])
+          → ent 𝓤 (on_entry 𝓛 new.signature (κ, tt) (q, tt) a at) (WpFn 𝓤 H C Λ code.function (words_val s ∷ config_val c ∷ []) Post)
       walk words_are config-is =
           qed 𝓛 ((‵ (flft κ q) ⊛ ‵ ftrue) ∷ ‵ Had ∷ []) ∵
-          begins ! C Λ code.function (words_val s ∷ configVal c ∷ []) _
+          begins ! C Λ code.function (words_val s ∷ config_val c ∷ []) _
           ((tt, words-typed 𝓛 κ s words_are), (typed 𝓛 F.the_type F'.the_laws c config-is, tt)) (λ bs.
-          owned-data ! F.the_type F'.the_plain c _ config-is $ use1 𝓛 (raw (Fresh.pre to)) goes.prf $
+          owned_data ! F.the_type F'.the_plain c _ config-is $ use1 𝓛 (raw (Fresh.pre to)) goes.prf $
           calls_at ! fm Fresh known to (and_then ! (held ! (cell 1 2) refl) (no_more !)) (λ u.
           told ! u K.the_type K'.the_laws (‵ ftrue) fresh-fn.ended tt (c, tt) (λ k. k ≡ fresh c) (λ k e is. move ! (1 ∷ []) $ drop ! $
           -- [what the checker owns]
-          lands-in ! (cell 1 3) refl (typed 𝓛 K.the_type K'.the_laws k is) $
+          lands_in ! (cell 1 3) refl (typed 𝓛 K.the_type K'.the_laws k is) $
           sets ! (cell 1 0) refl (agg ! (and_then ! (held ! (cell 1 1) refl) (and_then ! (held ! (cell 1 3) refl) (no_more !))))
-          (cursor-typed 𝓛 (named 0) κ (made k) _ ((words_val s ∷ [], (checkerVal k ∷ [], tt)), (refl, (words_are, (is, tt))))) $
+          (cursor_typed 𝓛 (named 0) κ (made k) _ ((words_val s ∷ [], (checker_val k ∷ [], tt)), (refl, (words_are, (is, tt))))) $
           returns ! (look ! (cell 1 0) refl) $ aside ! $ freed ! $ freed ! $ freed ! $ freed ! $ free0 ! $ exits k e)))
 
 pub new_spec : {M : Type 1} → stated.statement M

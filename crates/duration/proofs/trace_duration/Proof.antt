@@ -5,18 +5,18 @@ use native.Mathlib.Omega.{arith}
 use borrow.Author.Rules.{rules}
 use Rattle.basics.specs.Outcome.{value}
 use Rattle.config.specs.Answers.{timingOutcome}
-use Rattle.config.specs.Configuration.{timingOf}
+use Rattle.config.specs.Configuration.{timing_of}
 use Rattle.config.specs.declared.Config.{Config}
 use Rattle.config.specs.declared.Timing.{Timing}
 use Rattle.config.proofs.Accepted.{accepted}
-use Rattle.config.proofs.Bounds.{period-bounds}
-use Rattle.duration.specs.Duration.{inNanoseconds}
+use Rattle.config.proofs.Bounds.{period_bounds}
+use Rattle.duration.specs.Duration.{in_nanoseconds}
 use Rattle.duration.proofs.Ways.{unfit, long, lasting}
 use Rattle.duration.proofs.trace_duration.Statement.{statement}
 use Rattle.duration.proofs.trace_duration.Tie as tie
 
-period-bound : (c : Config) (t : Timing) → timingOf c ≡ value t → c.period.0 ≤ 8500
-period-bound c t e = let a = (accepted c t e).0 in (period-bounds c a.part a.period).1
+period-bound : (c : Config) (t : Timing) → timing_of c ≡ value t → c.period.0 ≤ 8500
+period-bound c t e = let a = (accepted c t e).0 in (period_bounds c a.part a.period).1
 
 -- the two arguments, and that the sheet was accepted
 abbrev sheet : tie.After-enum-told → Config
@@ -25,7 +25,7 @@ sheet c = c.before.before.before.args.config
 abbrev count : tie.After-enum-told → ℕ
 count c = c.before.before.before.args.count
 
-known : (c : tie.After-enum-told) → timingOf (sheet c) ≡ value c.enum_told.given.0.0
+known : (c : tie.After-enum-told) → timing_of (sheet c) ≡ value c.enum_told.given.0.0
 known c = sym c.before.before.timing.ensures ∙ ap timingOutcome c.enum_told.given.1
 
 timing-requires : tie.Need-timing-requires
@@ -49,7 +49,7 @@ returns c =
 returns-2 : tie.Need-returns-2
 returns-2 c =
     let d = c.before.before.before in
-    ap value (c.in-nanoseconds.ensures ∙ ap inNanoseconds c.before.picoseconds.ensures.0)
+    ap value (c.in-nanoseconds.ensures ∙ ap in_nanoseconds c.before.picoseconds.ensures.0)
     ∙ sym (lasting (sheet d) (count d) (known d) (omega arith))
 
 returns-3 : tie.Need-returns-3

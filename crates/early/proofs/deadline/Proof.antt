@@ -9,22 +9,22 @@ use borrow.Author.Tests.{ne_eqb}
 use lib.ListN.{get_or}
 use mir.Syntax.{w32}
 use mir.Val.{Fits}
-use Rattle.rules.specs.Breaches.{deadlineBy, deadline}
+use Rattle.rules.specs.Breaches.{deadline_by, deadline}
 use Rattle.early.proofs.deadline.Statement.{statement}
 use Rattle.early.proofs.deadline.Tie as tie
 
 abbrev invariant-loop : tie.invariant-loop
-invariant-loop refi refs m₀ m = (m ≤ 8) × (deadlineBy m refi refs ≡ deadline refi refs)
+invariant-loop refi refs m₀ m = (m ≤ 8) × (deadline_by m refi refs ≡ deadline refi refs)
 
 abbrev decreases-loop : tie.decreases-loop
 decreases-loop refi refs m₀ m = m
 
 -- the highest place counts, or the one below it is the highest
 module _ (refi : ℕ) (refs : List ℕ) where
-  counts : (m i : ℕ) → m ≡ suc i → (get_or refs i 0 ≡ 0 → ⊥) → deadlineBy m refi refs ≡ get_or refs i 0 + m * refi
+  counts : (m i : ℕ) → m ≡ suc i → (get_or refs i 0 ≡ 0 → ⊥) → deadline_by m refi refs ≡ get_or refs i 0 + m * refi
   counts m i is e = rw (is, ne_eqb (get_or refs i 0) 0 e)
 
-  below : (m i : ℕ) → m ≡ suc i → get_or refs i 0 ≡ 0 → deadlineBy m refi refs ≡ deadlineBy i refi refs
+  below : (m i : ℕ) → m ≡ suc i → get_or refs i 0 ≡ 0 → deadline_by m refi refs ≡ deadline_by i refi refs
   below m i is e = rw (is, e)
 
 loop-holds : tie.Need-loop-init invariant-loop decreases-loop

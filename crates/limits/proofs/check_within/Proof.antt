@@ -3,7 +3,7 @@ use mathlib.Core.Path.{◌≡◌, sym, ◌∙◌, ap}
 use borrow.Author.Rules.{rules}
 use Rattle.basics.specs.Outcome.{value}
 use Rattle.config.specs.Answers.{timingOutcome}
-use Rattle.config.specs.Configuration.{derived, timingOf}
+use Rattle.config.specs.Configuration.{derived, timing_of}
 use Rattle.config.specs.declared.Config.{Config}
 use Rattle.config.specs.declared.Timing.{Timing}
 use Rattle.config.specs.declared.TimingAnswer.{TimingAnswer}
@@ -13,7 +13,7 @@ use Rattle.limits.proofs.check_within.Statement.{statement}
 use Rattle.limits.proofs.check_within.Tie as tie
 
 -- what is known of a sheet that is not refused
-known : (c : Config) (r : TimingAnswer) (t : Timing) → timingOutcome r ≡ timingOf c → r ≡ Accepted t → timingOf c ≡ value (derived c)
+known : (c : Config) (r : TimingAnswer) (t : Timing) → timingOutcome r ≡ timing_of c → r ≡ Accepted t → timing_of c ≡ value (derived c)
 known c r t e h = timing-is c (accepted c t (sym e ∙ ap timingOutcome h)).0
 
 timing-requires : tie.Need-timing-requires

@@ -5,8 +5,8 @@ use mathlib.Core.Bool.{true, ◌&&◌}
 use mathlib.Core.List.{List}
 use borrow.Author.Rules.{rules}
 use Rattle.config.specs.declared.Config.{Config}
-use Rattle.limits.specs.Limits.{alike, nowhereAbove, withinOf}
-use Rattle.limits.proofs.Both.{foundOn, orNext, by_both}
+use Rattle.limits.specs.Limits.{alike, nowhere_above, within_of}
+use Rattle.limits.proofs.Both.{found_on, or_next, by_both}
 use Rattle.limits.proofs.on_both.Statement.{statement}
 use Rattle.limits.proofs.on_both.Tie as tie
 
@@ -20,10 +20,10 @@ abbrev trace : tie.Then1 → List ℕ
 trace c = c.before.before.before.before.args.words.now
 
 -- both tests hold
-fit : (c : tie.Then1) → (alike (least c) (greatest c) && nowhereAbove (least c) (greatest c)) ≡ true
+fit : (c : tie.Then1) → (alike (least c) (greatest c) && nowhere_above (least c) (greatest c)) ≡ true
 fit c = rw (← c.before.before.alike.ensures, ← c.before.nowhere-above.ensures) c.if1.true
 
-found : (c : tie.Then1) → withinOf (least c) (greatest c) (trace c) ≡ orNext (foundOn (least c) (trace c)) (foundOn (greatest c) (trace c))
+found : (c : tie.Then1) → within_of (least c) (greatest c) (trace c) ≡ or_next (found_on (least c) (trace c)) (found_on (greatest c) (trace c))
 found c = by_both (least c) (greatest c) (trace c) c.before.before.before.before.requires (fit c)
 
 alike-requires : tie.Need-alike-requires

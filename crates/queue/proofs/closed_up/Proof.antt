@@ -6,7 +6,7 @@ use native.Mathlib.Omega.{arith}
 use lib.ListN.{length}
 use borrow.Author.Rules.{rules}
 use Rattle.queue.specs.Queue.{vacant}
-use Rattle.queue.proofs.Closing.{up_to, up_start, up_turn, none-leaves, up-end}
+use Rattle.queue.proofs.Closing.{up_to, up_start, up_turn, none-leaves, up_end}
 use Rattle.queue.proofs.closed_up.Statement.{statement}
 use Rattle.queue.proofs.closed_up.Tie as tie
 
@@ -74,7 +74,7 @@ returns-2 c =
     let a = c.before.before.before.before.args in
     let last : c.before.before.before.lesser.result - 1 ≡ min a.count (length a.waiting) - 1 = omega arith in
     let passed : l.i ≡ min a.count (length a.waiting) - 1 = omega arith in
-    rw (l.invariant.2, last, passed) (up-end vacant a.waiting a.place a.count (omega arith))
+    rw (l.invariant.2, last, passed) (up_end vacant a.waiting a.place a.count (omega arith))
 
 pub closed-up-spec : {M : Type 1} → statement M
 closed-up-spec =

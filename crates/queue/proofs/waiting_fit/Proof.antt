@@ -5,7 +5,7 @@ use mathlib.Core.Bool.{◌&&◌}
 use native.Mathlib.Omega.{arith}
 use borrow.Author.Tests.{not-true, not-false}
 use lib.ListN.{get_or, take, drop}
-use Rattle.writing.specs.Writing.{requestFits}
+use Rattle.writing.specs.Writing.{request_fits}
 use Rattle.queue.specs.Queue.{vacant, all_fit}
 use Rattle.queue.proofs.Waiting.{fits-from, fits-behind}
 use borrow.Author.Rules.{rules}
@@ -22,7 +22,7 @@ decreases-loop timing count waiting end i₀ i = end - i
 -- what is left at a turn fits if its request does and those behind it do
 turn : (c : tie.In-loop invariant-loop decreases-loop) → let a = c.before.before.before.args in let l = c.before.loop in
     let first = take a.count a.t2 in
-    all_fit a.timing first ≡ requestFits a.timing (get_or a.t2 l.i vacant) && all_fit a.timing (drop (l.i + 1) first)
+    all_fit a.timing first ≡ request_fits a.timing (get_or a.t2 l.i vacant) && all_fit a.timing (drop (l.i + 1) first)
 turn c =
     let a = c.before.before.before.args in
     c.before.loop.invariant.1 ∙ fits-from a.timing a.t2 a.count c.before.loop.i (omega arith) (omega arith)

@@ -1,5 +1,5 @@
 -- By LAL alone.
-use Rattle.reading.proofs.Data.{burst-by}
+use Rattle.reading.proofs.Data.{burst_by}
 use borrow.Author.Rules.{rules}
 use Rattle.reading.proofs.burst.Statement.{statement}
 use Rattle.reading.proofs.burst.Tie as tie
@@ -19,7 +19,7 @@ returns c =
       c.kept.ensures.0,
       c.before.before.high.ensures,
       c.before.before.before.figures.ensures,
-      burst-by c.before.before.before.before.args.timing,
+      burst_by c.before.before.before.before.args.timing,
     )
 
 pub burst-spec : {M : Type 1} → statement M

@@ -1,5 +1,5 @@
 -- By LAL, and CL or WL by RDA.
-use Rattle.reading.proofs.Data.{latency-by}
+use Rattle.reading.proofs.Data.{latency_by}
 use borrow.Author.Rules.{rules}
 use Rattle.reading.proofs.latency.Statement.{statement}
 use Rattle.reading.proofs.latency.Tie as tie
@@ -27,7 +27,7 @@ returns c =
       c.before.before.high2.ensures,
       c.before.before.before.high.ensures,
       c.before.before.before.before.figures.ensures,
-      latency-by c.before.before.before.before.before.args.timing,
+      latency_by c.before.before.before.before.before.args.timing,
     )
 
 pub latency-spec : {M : Type 1} → statement M

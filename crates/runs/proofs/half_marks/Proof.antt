@@ -9,7 +9,7 @@ use lib.Pow.{pow-lt}
 use Rattle.words.specs.Words.{words_of}
 use Rattle.words.proofs.Listed.{part-listed}
 use Rattle.runs.specs.Runs.{agrees, marks}
-use Rattle.runs.proofs.Marked.{marks-on, marks-off}
+use Rattle.runs.proofs.Marked.{marks-on, marks_off}
 use native.Mathlib.Omega.{arith}
 use borrow.Author.Rules.{rules}
 use Rattle.runs.proofs.half_marks.Statement.{statement}
@@ -71,7 +71,7 @@ loop-again c =
           (λ w.
           let fits : 2 ^ l.count < 2 ^ 32 = pow-lt {j = 32} (omega arith) in
           let bit : 1 * 2 ^ l.count % 2 ^ 32 ≡ 1 * 2 ^ l.count = mod-eq_of_lt (omega arith) in
-          rw (w.1, bit) (marks-off a.shift a.top ws a.from l.count l.invariant.1 here (not-true _ w.0.taken)))
+          rw (w.1, bit) (marks_off a.shift a.top ws a.from l.count l.invariant.1 here (not-true _ w.0.taken)))
           (λ w.
           rw w.1 (marks-on a.shift a.top ws a.from l.count l.invariant.1 here (not-false _ w.0.left)))
           c.if1.branch,

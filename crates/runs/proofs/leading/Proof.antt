@@ -12,8 +12,8 @@ use lib.Bits.{bit_or}
 use lib.Count.{trailing_le}
 use Rattle.words.specs.Words.{words_of}
 use Rattle.words.proofs.Listed.{words-length}
-use Rattle.runs.proofs.Lead.{lead, lead-on, lead-off, lead-past}
-use Rattle.runs.proofs.Marks.{Marks, no-marks, marked, unmarked, sixteen}
+use Rattle.runs.proofs.Lead.{lead, lead-on, lead_off, lead-past}
+use Rattle.runs.proofs.Marks.{Marks, no_marks, marked, unmarked, sixteen}
 use Rattle.runs.proofs.leading.Statement.{statement}
 use Rattle.runs.proofs.leading.Tie as tie
 
@@ -24,7 +24,7 @@ abbrev decreases-loop : tie.decreases-loop
 decreases-loop bytes at shift top marks₀ count₀ marks count = 16 - count
 
 loop-holds : tie.Need-loop-init invariant-loop decreases-loop
-loop-holds c = (omega arith, no-marks _)
+loop-holds c = (omega arith, no_marks _)
 
 cast-agrees : tie.Need-overflow-cast-agrees invariant-loop decreases-loop
 cast-agrees c = search rules
@@ -53,7 +53,7 @@ loop-again c =
     let inside : a.at + l.count < length ws = rw (words-length a.bytes.now) (omega arith) in
     let passed = lead-past a.shift a.top ws l.count a.at in
     let on = lead-on a.shift a.top ws (a.at + l.count) inside asked.agrees.ensures in
-    let off = lead-off a.shift a.top ws (a.at + l.count) inside asked.agrees.ensures in (
+    let off = lead_off a.shift a.top ws (a.at + l.count) inside asked.agrees.ensures in (
       omega arith,
       ⊎_elim
           (λ w.

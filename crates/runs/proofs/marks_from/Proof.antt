@@ -5,20 +5,20 @@ use native.Mathlib.Omega.{arith}
 use borrow.Author.Rules.{rules}
 use Rattle.words.specs.Words.{words_of}
 use Rattle.words.proofs.Listed.{words-length}
-use Rattle.runs.specs.Runs.{marksFrom}
-use Rattle.runs.proofs.Marked.{marks-join, marks-there, marks-missing}
+use Rattle.runs.specs.Runs.{marks_from}
+use Rattle.runs.proofs.Marked.{marks_join, marks-there, marks_missing}
 use Rattle.runs.proofs.marks_from.Statement.{statement}
 use Rattle.runs.proofs.marks_from.Tie as tie
 
 returns : tie.Need-returns
 returns c =
     let a = c.before.before.args in
-    sym (marks-missing (a.shift % 32) a.top (words_of a.bytes.now) a.from (omega (arith, words-length a.bytes.now)))
+    sym (marks_missing (a.shift % 32) a.top (words_of a.bytes.now) a.from (omega (arith, words-length a.bytes.now)))
 
 returns-2 : tie.Need-returns-2
 returns-2 c =
     let a = c.before.before.before.args in
-    sym (marks-missing (a.shift % 32) a.top (words_of a.bytes.now) a.from (omega (arith, words-length a.bytes.now)))
+    sym (marks_missing (a.shift % 32) a.top (words_of a.bytes.now) a.from (omega (arith, words-length a.bytes.now)))
 
 half-marks-requires : tie.Need-half-marks-requires
 half-marks-requires c κs = search rules
@@ -31,7 +31,7 @@ half-marks-requires-2 c κs = search rules
 
 -- the two halves, where the bytes hold all the words
 joined : (c : tie.After-half-marks2) → let a = c.before.before.before.before.before.args in
-    marksFrom (a.shift % 32) a.top (words_of a.bytes.now) a.from ≡ c.before.half-marks.result + c.half-marks2.result * 2 ^ 29
+    marks_from (a.shift % 32) a.top (words_of a.bytes.now) a.from ≡ c.before.half-marks.result + c.half-marks2.result * 2 ^ 29
 joined c =
     let a = c.before.before.before.before.before.args in
     let ws = words_of a.bytes.now in
@@ -40,7 +40,7 @@ joined c =
       c.before.half-marks.ensures,
       c.half-marks2.ensures,
       marks-there (a.shift % 32) a.top ws a.from (omega (arith, words-length a.bytes.now)),
-      marks-join (a.shift % 32) a.top ws a.from 29 29,
+      marks_join (a.shift % 32) a.top ws a.from 29 29,
     )
 
 returns-3 : tie.Need-returns-3

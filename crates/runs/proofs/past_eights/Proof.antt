@@ -5,14 +5,14 @@ use native.Mathlib.Omega.{arith}
 use borrow.Author.Rules.{rules}
 use borrow.Author.Tests.{not-false}
 use Rattle.words.specs.Words.{words_of}
-use Rattle.runs.specs.Runs.{runEnd}
+use Rattle.runs.specs.Runs.{run_end}
 use Rattle.runs.proofs.Lead.{run_past}
 use Rattle.runs.proofs.past_eights.Statement.{statement}
 use Rattle.runs.proofs.past_eights.Tie as tie
 
 abbrev invariant-loop : tie.invariant-loop
 invariant-loop bytes from stop shift top at₀ at =
-    (at ≤ stop) × (runEnd shift top stop (words_of bytes) at ≡ runEnd shift top stop (words_of bytes) from)
+    (at ≤ stop) × (run_end shift top stop (words_of bytes) at ≡ run_end shift top stop (words_of bytes) from)
 
 abbrev decreases-loop : tie.decreases-loop
 decreases-loop bytes from stop shift top at₀ at = stop - at

@@ -5,7 +5,7 @@ use native.Mathlib.Omega.{arith}
 use borrow.Author.Rules.{rules}
 use Rattle.words.specs.Words.{words_of}
 use Rattle.words.proofs.Listed.{words-length}
-use Rattle.runs.specs.Runs.{runEnd}
+use Rattle.runs.specs.Runs.{run_end}
 use Rattle.runs.proofs.Lead.{run_past, cut}
 use Rattle.runs.proofs.past_run.Statement.{statement}
 use Rattle.runs.proofs.past_run.Tie as tie
@@ -13,7 +13,7 @@ use Rattle.runs.proofs.past_run.Tie as tie
 -- the run ends before `end` as it does before the lower of `end` and the number of words
 ends : (c : tie.After-lesser) → let a = c.before.before.args in
     let ws = words_of a.bytes.now in
-    runEnd (a.shift % 32) a.top c.lesser.result ws a.from ≡ runEnd (a.shift % 32) a.top a.end ws a.from
+    run_end (a.shift % 32) a.top c.lesser.result ws a.from ≡ run_end (a.shift % 32) a.top a.end ws a.from
 ends c =
     let a = c.before.before.args in
     cut (a.shift % 32) a.top (words_of a.bytes.now) a.end a.from (rw (words-length a.bytes.now) c.lesser.ensures)

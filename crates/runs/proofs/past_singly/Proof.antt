@@ -7,13 +7,13 @@ use borrow.Author.Tests.{not-true, not-false}
 use lib.ListN.{length}
 use Rattle.words.specs.Words.{words_of}
 use Rattle.words.proofs.Listed.{words-length}
-use Rattle.runs.specs.Runs.{runEnd}
-use Rattle.runs.proofs.Lead.{lead-on, lead-off}
+use Rattle.runs.specs.Runs.{run_end}
+use Rattle.runs.proofs.Lead.{lead-on, lead_off}
 use Rattle.runs.proofs.past_singly.Statement.{statement}
 use Rattle.runs.proofs.past_singly.Tie as tie
 
 abbrev invariant-loop : tie.invariant-loop
-invariant-loop bytes from stop shift top at₀ at = runEnd shift top stop (words_of bytes) at ≡ runEnd shift top stop (words_of bytes) from
+invariant-loop bytes from stop shift top at₀ at = run_end shift top stop (words_of bytes) at ≡ run_end shift top stop (words_of bytes) from
 
 abbrev decreases-loop : tie.decreases-loop
 decreases-loop bytes from stop shift top at₀ at = stop - at
@@ -32,7 +32,7 @@ returns c =
     let ws = words_of a.bytes.now in
     let inside : l.at < length ws = rw (words-length a.bytes.now) (omega arith) in
     let other = not-true asked.agrees.result c.if1.true in
-    omega (arith, l.invariant, lead-off a.shift a.top ws l.at inside asked.agrees.ensures other)
+    omega (arith, l.invariant, lead_off a.shift a.top ws l.at inside asked.agrees.ensures other)
 
 add_at : tie.Need-overflow-add-at invariant-loop decreases-loop
 add_at c = omega arith

@@ -6,7 +6,7 @@ use borrow.Author.Rules.{rules}
 use lib.ListN.{length, drop}
 use Rattle.rules.specs.Verdict.{judge}
 use Rattle.basics.specs.Outcome.{value}
-use Rattle.rules.proofs.Words.{run, run_is, run-passes, run-breaches, run_ends}
+use Rattle.rules.proofs.Words.{run, run_is, run-passes, run_breaches, run_ends}
 use Rattle.wordcheck.proofs.judged.Statement.{statement}
 use Rattle.wordcheck.proofs.judged.Tie as tie
 
@@ -49,7 +49,7 @@ returns c =
     let a = c.before.before.before.before.before.before.before.before.args in
     ap value
     (sym
-    (l.invariant.1 ∙ run-breaches a.timing l.stamps l.first a.words.now l.clock
+    (l.invariant.1 ∙ run_breaches a.timing l.stamps l.first a.words.now l.clock
     c.before.before.before.loop-test.true refl c.before.word-breach.ensures c.if1.true))
 
 after-requires : tie.Need-after-requires invariant-loop decreases-loop

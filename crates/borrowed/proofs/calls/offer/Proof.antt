@@ -36,7 +36,7 @@ use denote.Exit.{yes}
 use Rattle.command.specs.declared.operation.Request.{Request}
 use Rattle.command.specs.contracts.operation.Request as Q
 use Rattle.command.proofs.operation.Request.TheLaws as Q'
-use Rattle.controller.specs.Steps.{offered, offerOf}
+use Rattle.controller.specs.Steps.{offered, offer_of}
 use Rattle.controller.specs.declared.Controller.{Controller}
 use Rattle.controller.specs.declared.Offered.{Offered}
 use Rattle.controller.specs.contracts.Controller as T
@@ -49,8 +49,8 @@ use Rattle.controller.specs.contracts.Controller.offer as callee
 use Rattle.controller.proofs.Controller.offer.Symbol as callee-def
 use Rattle.controller.proofs.Controller.offer.Symbol.{name as #callee}
 use Rattle.controller.proofs.Controller.offer.Met as callee-thm
-use Rattle.borrowed.proofs.Locals.{cell, begins, aside, freed, held, held-field, sets, lands-in}
-use Rattle.borrowed.proofs.Behind.{Known, owned-data, opened, closed, told, typed, reached}
+use Rattle.borrowed.proofs.Locals.{cell, begins, aside, freed, held, held_field, sets, lands_in}
+use Rattle.borrowed.proofs.Behind.{Known, owned_data, opened, closed, told, typed, reached}
 use Rattle.borrowed.specs.contracts.calls.offer.Key.{name as #offer}
 use Rattle.borrowed.specs.contracts.calls.offer as offer
 use Rattle.borrowed.proofs.calls.offer.Statement as stated
@@ -104,17 +104,17 @@ module _ {M : Type 1} {𝓤 : Ura M} (𝓛 : Logic 𝓤) (mem : Memory → SProp
     goes : Sq 𝓛 (‵ ((T.the_row).own_val h (mach ∷ [])) ∷ []) (prop (Callee.pre to))
     goes =
         nothing ! $
-        owned-data ! Q.the_type Q'.the_plain request _ request-is $ fjoin ! $ move ! (1 ∷ 0 ∷ []) $ fjoin ! $
+        owned_data ! Q.the_type Q'.the_plain request _ request-is $ fjoin ! $ move ! (1 ∷ 0 ∷ []) $ fjoin ! $
         nothing ! $ join ! $ nothing ! $ move ! (1 ∷ 0 ∷ []) $ done !
 
-    exits : (r : Offered) → offered r ≡ offerOf h request → Known S.the_type S'.the_laws r
+    exits : (r : Offered) → offered r ≡ offer_of h request → Known S.the_type S'.the_laws r
         → Sq 𝓛 (‵ ((MutRef (named 0) κ T.the_row).own_val (ref r.controller) (vptr b o ∷ [])) ∷ ‵ (flft κ q) ∷ []) (prop (Post (out r)))
     exits r e is =
         suffices ! _
         (ends_at 𝓛 offer.ended stayed (offer.clauses 𝓛 mem run) (((κ, tt), (q, tt), tt, (ref h, (request, tt)), at), tt)
         (out r) r.answer (r.controller, (tt, tt)) (tt, (tt, tt))) $
         says ! e $ nothing ! $ move ! (2 ∷ 0 ∷ []) $ join ! $ frame ! $ nothing ! $
-        owned-data ! Q.the_type Q'.the_plain request _ request-is $ fjoin ! $ move ! (1 ∷ 0 ∷ []) $ fjoin ! $
+        owned_data ! Q.the_type Q'.the_plain request _ request-is $ fjoin ! $ move ! (1 ∷ 0 ∷ []) $ fjoin ! $
         owned ! G.the_row (Is G.the_row) (EL.makes G.the_type G'.the_plain 𝓛) r.answer _ (answer-is r is) $ move !
         (1 ∷ 0 ∷ []) $ done !
 
@@ -132,15 +132,15 @@ module _ {M : Type 1} {𝓤 : Ura M} (𝓛 : Logic 𝓤) (mem : Memory → SProp
           (typed 𝓛 T.the_type T'.the_laws h is₀) $
           use1 𝓛 (raw (Callee.pre to)) goes.prf $
           calls_at ! fm Callee known to (and_then ! (held ! (cell 5 4) refl) (and_then ! (held ! (cell 5 2) refl) (no_more !))) (λ v.
-          told ! v S.the_type S'.the_laws (‵ ftrue) callee.ended tt (h, (request, tt)) (λ r. offered r ≡ offerOf h request)
+          told ! v S.the_type S'.the_laws (‵ ftrue) callee.ended tt (h, (request, tt)) (λ r. offered r ≡ offer_of h request)
           (λ r e is. drop ! $ drop ! $
           -- [the controller's cell; the open borrow; obs; auth]
-          lands-in ! (cell 4 3) refl (typed 𝓛 S.the_type S'.the_laws r is) $
-          assigns ! (of_opd ! (held-field ! (cell 4 3) refl (sub ! 1 refl (whole !)))) (from ! (hop ! (look ! (cell 4 1) refl) (stop !)))
+          lands_in ! (cell 4 3) refl (typed 𝓛 S.the_type S'.the_laws r is) $
+          assigns ! (of_opd ! (held_field ! (cell 4 3) refl (sub ! 1 refl (whole !)))) (from ! (hop ! (look ! (cell 4 1) refl) (stop !)))
           (store_raw ! 0 refl (typed 𝓛 T.the_type T'.the_laws r.controller (after_is r is))) $
-          sets ! (cell 4 0) refl (of_opd ! (held-field ! (cell 4 3) refl (sub ! 0 refl (whole !))))
+          sets ! (cell 4 0) refl (of_opd ! (held_field ! (cell 4 3) refl (sub ! 0 refl (whole !))))
           ((EL.lawful G.the_type G'.the_laws 𝓛 tt).typed r.answer _ (answer-is r is)).0 $
-          owned-data ! T.the_type T'.the_plain r.controller _ (after_is r is) $
+          owned_data ! T.the_type T'.the_plain r.controller _ (after_is r is) $
           closed ! tt T.the_type T'.the_laws r.controller $
           -- [what the reference owns; the token]
           returns ! (look ! (cell 2 0) refl) $ aside ! $ aside ! $ freed ! $ freed ! $ freed ! $ freed ! $ freed ! $ free0 ! $

@@ -31,7 +31,7 @@ use denote.Triple.Entry.{on_entry}
 use denote.Triple.Spec.{triple_of}
 use denote.Triple.Table.{cited}
 use denote.Triple.Walked.{says, Stays, stay_ref, walk_of, Goes-ref, ends_at}
-use Rattle.controller.specs.Steps.{ticked, tickOf}
+use Rattle.controller.specs.Steps.{ticked, tick_of}
 use Rattle.controller.specs.declared.Controller.{Controller}
 use Rattle.controller.specs.declared.Ticked.{Ticked}
 use Rattle.controller.specs.contracts.Controller as T
@@ -43,8 +43,8 @@ use Rattle.controller.proofs.Controller.tick.Symbol as callee-def
 use Rattle.controller.proofs.Controller.tick.Symbol.{name as #callee}
 use Rattle.controller.proofs.Controller.tick.Met as callee-thm
 use Rattle.borrowed.specs.declared.calls.Given as answers
-use Rattle.borrowed.proofs.Locals.{cell, begins, aside, freed, held, held-field, sets, lands-in}
-use Rattle.borrowed.proofs.Behind.{Known, owned-data, opened, closed, told, typed, reached}
+use Rattle.borrowed.proofs.Locals.{cell, begins, aside, freed, held, held_field, sets, lands_in}
+use Rattle.borrowed.proofs.Behind.{Known, owned_data, opened, closed, told, typed, reached}
 use Rattle.borrowed.specs.contracts.calls.Given as G
 use Rattle.borrowed.proofs.calls.Given.TheLaws as G'
 use Rattle.borrowed.specs.contracts.calls.tick.Key.{name as #tick}
@@ -98,13 +98,13 @@ module _ {M : Type 1} {𝓤 : Ura M} (𝓛 : Logic 𝓤) (mem : Memory → SProp
     goes : Sq 𝓛 (‵ ((T.the_row).own_val h (mach ∷ [])) ∷ []) (prop (Callee.pre to))
     goes = nothing ! $ move ! (1 ∷ 0 ∷ []) $ join ! $ nothing ! $ join ! $ frame ! $ done !
 
-    exits : (r : Ticked) → ticked r ≡ tickOf h → Known S.the_type S'.the_laws r
+    exits : (r : Ticked) → ticked r ≡ tick_of h → Known S.the_type S'.the_laws r
         → Sq 𝓛 (‵ ((MutRef (named 0) κ T.the_row).own_val (ref r.controller) (vptr b o ∷ [])) ∷ ‵ (flft κ q) ∷ []) (prop (Post (out r)))
     exits r e is =
         suffices ! _ (ends_at 𝓛 tick.ended stayed (tick.clauses 𝓛 mem run) (((κ, tt), (q, tt), tt, (ref h, tt), at), tt)
         (out r) (given r) (r.controller, tt) (tt, tt)) $
         says ! e $ nothing ! $ move ! (2 ∷ 0 ∷ []) $ join ! $ frame ! $ nothing ! $ move ! (1 ∷ 0 ∷ []) $ fjoin ! $
-        owned-data ! G.the_type G'.the_plain (given r) _ (given_is r is) $ move ! (1 ∷ 0 ∷ []) $ done !
+        owned_data ! G.the_type G'.the_plain (given r) _ (given_is r is) $ move ! (1 ∷ 0 ∷ []) $ done !
 
     module _ (C : Calls 𝓤 H) (Λ : Loops 𝓤 H) (fm : FmC 𝓤 H 𝓛.laws C) (known : Triple 𝓤 (C #callee) Callee) where
       walk : ent 𝓤 (on_entry 𝓛 tick.signature (κ, tt) (q, tt) (ref h, tt) at) (WpFn 𝓤 H C Λ code.function (vptr b o ∷ []) Post)
@@ -119,15 +119,15 @@ module _ {M : Type 1} {𝓤 : Ura M} (𝓛 : Logic 𝓤) (mem : Memory → SProp
           (typed 𝓛 T.the_type T'.the_laws h is₀) $
           use1 𝓛 (raw (Callee.pre to)) goes.prf $
           calls_at ! fm Callee known to (and_then ! (held ! (cell 5 3) refl) (no_more !)) (λ v.
-          told ! v S.the_type S'.the_laws (‵ ftrue) callee.ended tt (h, tt) (λ r. ticked r ≡ tickOf h) (λ r e is. drop ! $ drop ! $
+          told ! v S.the_type S'.the_laws (‵ ftrue) callee.ended tt (h, tt) (λ r. ticked r ≡ tick_of h) (λ r e is. drop ! $ drop ! $
           -- [the controller's cell; the open borrow; obs; auth]
-          lands-in ! (cell 4 2) refl (typed 𝓛 S.the_type S'.the_laws r is) $
-          assigns ! (of_opd ! (held-field ! (cell 4 2) refl (sub ! 2 refl (whole !)))) (from ! (hop ! (look ! (cell 4 1) refl) (stop !)))
+          lands_in ! (cell 4 2) refl (typed 𝓛 S.the_type S'.the_laws r is) $
+          assigns ! (of_opd ! (held_field ! (cell 4 2) refl (sub ! 2 refl (whole !)))) (from ! (hop ! (look ! (cell 4 1) refl) (stop !)))
           (store_raw ! 0 refl (typed 𝓛 T.the_type T'.the_laws r.controller (after_is r is))) $
-          sets ! (cell 4 0) refl (agg ! (and_then ! (held-field ! (cell 4 2) refl (sub ! 0 refl (whole !)))
-          (and_then ! (held-field ! (cell 4 2) refl (sub ! 1 refl (whole !)))
+          sets ! (cell 4 0) refl (agg ! (and_then ! (held_field ! (cell 4 2) refl (sub ! 0 refl (whole !)))
+          (and_then ! (held_field ! (cell 4 2) refl (sub ! 1 refl (whole !)))
           (no_more !)))) (typed 𝓛 G.the_type G'.the_laws (given r) (given_is r is)) $
-          owned-data ! T.the_type T'.the_plain r.controller _ (after_is r is) $
+          owned_data ! T.the_type T'.the_plain r.controller _ (after_is r is) $
           closed ! tt T.the_type T'.the_laws r.controller $
           -- [what the reference owns; the token]
           returns ! (look ! (cell 2 0) refl) $ aside ! $ aside ! $ freed ! $ freed ! $ freed ! $ freed ! $ free0 ! $ keep !

@@ -2,7 +2,7 @@
 use Prim.Native.Nat.{◌≤◌, ◌<◌}
 use native.Mathlib.Omega.{arith}
 use lib.ListN.{length, length-set}
-use Rattle.bulk.proofs.Places.{six-set}
+use Rattle.bulk.proofs.Places.{six_set}
 use borrow.Author.Tests.{le-leb, lt-leb}
 use borrow.Author.Rules.{rules}
 use Rattle.bulk.proofs.counting.store.Statement.{statement}
@@ -34,7 +34,7 @@ returns c =
     let places = c.before.args.places.now in
     let n = c.before.args.counts in
     let enough : 6 ≤ length places = omega arith in
-    let is = six-set n.reads n.writes n.modes n.refreshes n.desls n.clocks.0 places enough in
+    let is = six_set n.reads n.writes n.modes n.refreshes n.desls n.clocks.0 places enough in
     rw (le-leb 6 (length places) enough) is
 
 returns-2 : tie.Need-returns-2

@@ -1,6 +1,6 @@
 -- The invariant: what is left of the walk gives what the whole of it gives.
 use mathlib.Core.Path.{◌≡◌, refl, sym, ◌∙◌}
-use Rattle.bulk.specs.Walks.{walkFrom}
+use Rattle.bulk.specs.Walks.{walk_from}
 use Rattle.bulk.proofs.Turns.{stops, leads}
 use native.Mathlib.Omega.{arith}
 use borrow.Author.Tests.{not-true, not-false}
@@ -9,7 +9,7 @@ use Rattle.bulk.proofs.walk.walk_from.Statement.{statement}
 use Rattle.bulk.proofs.walk.walk_from.Tie as tie
 
 abbrev invariant-loop : tie.invariant-loop
-invariant-loop words most now₀ left₀ now left = walkFrom left now words ≡ walkFrom left₀ now₀ words
+invariant-loop words most now₀ left₀ now left = walk_from left now words ≡ walk_from left₀ now₀ words
 
 abbrev decreases-loop : tie.decreases-loop
 decreases-loop words most now₀ left₀ now left = left

@@ -1,7 +1,7 @@
 -- By the word at the clock.
 use borrow.Author.Rules.{rules}
 use Rattle.bytecheck.specs.Passed.{none}
-use Rattle.bytecheck.proofs.Passing.{desl-quiet}
+use Rattle.bytecheck.proofs.Passing.{desl_quiet}
 use Rattle.bytecheck.proofs.idle.past_idle.Statement.{statement}
 use Rattle.bytecheck.proofs.idle.past_idle.Tie as tie
 
@@ -20,7 +20,7 @@ past-power-down-requires c κs = search rules
 returns-2 : tie.Need-returns-2
 returns-2 c =
     let a = c.before.before.before.before.before.args in
-    (c.past-run.ensures.0, c.past-run.ensures.1 0xC0000 desl-quiet a.timing a.stamps)
+    (c.past-run.ensures.0, c.past-run.ensures.1 0xC0000 desl_quiet a.timing a.stamps)
 
 returns-3 : tie.Need-returns-3
 returns-3 c = c.past-power-down.ensures

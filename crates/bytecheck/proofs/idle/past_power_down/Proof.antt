@@ -10,8 +10,8 @@ use lib.Dec.{eqb}
 use Rattle.words.specs.Words.{words_of}
 use Rattle.words.proofs.Listed.{words-length, word-listed}
 use Rattle.bytecheck.specs.Passed.{Passed, none, more}
-use Rattle.bytecheck.specs.Quick.{idleAt}
-use Rattle.bytecheck.proofs.Passing.{low-quiet, low-passes, exit-passes, passed_on}
+use Rattle.bytecheck.specs.Quick.{idle_at}
+use Rattle.bytecheck.proofs.Passing.{low_quiet, low-passes, exit_passes, passed_on}
 use Rattle.bytecheck.proofs.idle.past_power_down.Statement.{statement}
 use Rattle.bytecheck.proofs.idle.past_power_down.Tie as tie
 
@@ -92,17 +92,17 @@ returns-5 c =
       omega (arith, run.0),
       λ due.
           let goes =
-          low-passes a.timing ws (idleAt a.clock a.stamps) (rw (words-length bytes) k₀)
+          low-passes a.timing ws (idle_at a.clock a.stamps) (rw (words-length bytes) k₀)
           (read.word_at.ensures ∙ word-listed bytes a.clock k₀) (due a.clock (omega arith)) refl tested.before.if1.false
           (sym tested.must-stay-high.ensures ∙ may.if2.false) in
           let wakes₁ =
-          exit-passes a.timing ws (record { clock = at; met = 0x40000; stamps = a.stamps }) (rw (words-length bytes) k₁)
+          exit_passes a.timing ws (record { clock = at; met = 0x40000; stamps = a.stamps }) (rw (words-length bytes) k₁)
           (wakes.before.word-at2.ensures ∙ word-listed bytes at k₁) (due at (omega arith)) refl refl kinds.0 in
           let wakes₂ =
-          exit-passes a.timing ws (record { clock = at + 1; met = 0xE0000; stamps = a.stamps }) (rw (words-length bytes) k₂)
+          exit_passes a.timing ws (record { clock = at + 1; met = 0xE0000; stamps = a.stamps }) (rw (words-length bytes) k₂)
           (wakes.word-at3.ensures ∙ word-listed bytes (at + 1) k₂) (due (at + 1) (omega arith)) refl refl kinds.1 in
-          subst (λ j. Passed a.timing ws (idleAt a.clock a.stamps) (idleAt j a.stamps)) one
-          (more (more (passed_on (more none goes) (run.1 0x40000 low-quiet a.timing a.stamps due)) wakes₁) wakes₂),
+          subst (λ j. Passed a.timing ws (idle_at a.clock a.stamps) (idle_at j a.stamps)) one
+          (more (more (passed_on (more none goes) (run.1 0x40000 low_quiet a.timing a.stamps due)) wakes₁) wakes₂),
     )
 
 pub past-power-down-spec : {M : Type 1} → statement M

@@ -5,8 +5,8 @@ use borrow.Author.Rules.{rules}
 use lib.ListN.{drop}
 use Rattle.words.specs.Words.{words_of}
 use Rattle.runs.specs.Runs.{leading}
-use Rattle.runs.proofs.Lead.{in-run}
-use Rattle.bytecheck.proofs.Passing.{quiet-on}
+use Rattle.runs.proofs.Lead.{in_run}
+use Rattle.bytecheck.proofs.Passing.{quiet_on}
 use Rattle.bytecheck.proofs.idle.past_run.Statement.{statement}
 use Rattle.bytecheck.proofs.idle.past_run.Tie as tie
 
@@ -25,7 +25,7 @@ returns c =
     rw c.past-run.ensures (
       omega arith,
       λ first quiet t s due.
-          quiet-on shift a.top quiet t s ws a.clock n (λ i h. in-run shift a.top ws a.clock i (omega arith))
+          quiet_on shift a.top quiet t s ws a.clock n (λ i h. in_run shift a.top ws a.clock i (omega arith))
           (λ i h. due (a.clock + i) (omega arith)),
     )
 

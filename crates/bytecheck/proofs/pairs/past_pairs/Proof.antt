@@ -4,7 +4,7 @@ use mathlib.Core.Path.{◌∙◌, ap}
 use borrow.Author.Tests.{not-false}
 use lib.ListN.{length}
 use Rattle.config.specs.declared.figures.Figures.{Figures}
-use Rattle.command.specs.Address.{bankOf}
+use Rattle.command.specs.Address.{bank_of}
 use Rattle.words.specs.Words.{words_of}
 use Rattle.words.proofs.Listed.{words-length, pair-listed}
 use Rattle.bytecheck.specs.Passed.{none}
@@ -121,7 +121,7 @@ loop-again c =
     let clear = cleared.clear.ensures (not-false _ c.if1.false) in
     goes_on l.loop.invariant inside (rw (words-length bytes) (omega arith)) (omega arith) read.pair-to.result
     (pair-listed bytes l.loop.clock read.pair-to.ensures listed)
-    (banked.bank.ensures.0 ∙ ap (λ (f : Figures). bankOf f.four (read.pair-to.result % 2 ^ 32)) banked.before.figures.ensures)
+    (banked.bank.ensures.0 ∙ ap (λ (f : Figures). bank_of f.four (read.pair-to.result % 2 ^ 32)) banked.before.figures.ensures)
     (rw called.before.before.before.of.ensures.0 at clear)
 
 at-requires : tie.Need-at-requires invariant-loop decreases-loop

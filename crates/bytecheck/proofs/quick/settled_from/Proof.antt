@@ -49,8 +49,8 @@ returns-2 c =
       λ k h from.
           record {
             ready = rw started.if1.false (le-ltb k (s.extended + 201) (omega arith));
-            afterMode = far k s.mode t.rsc (omega arith);
-            afterRefresh = far k (get_or s.refs 0 0) t.refc (omega arith);
+            after_mode = far k s.mode t.rsc (omega arith);
+            after_refresh = far k (get_or s.refs 0 0) t.refc (omega arith);
           },
       omega (
         arith,

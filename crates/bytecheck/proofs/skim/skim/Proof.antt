@@ -13,8 +13,8 @@ use Rattle.command.specs.Pins.{level}
 use Rattle.words.specs.Words.{words_of}
 use Rattle.words.proofs.Listed.{words-length}
 use Rattle.bytecheck.specs.Passed.{Passed, none}
-use Rattle.bytecheck.specs.Quick.{idleAt}
-use Rattle.bytecheck.specs.Pairs.{stampsOf, trackAt}
+use Rattle.bytecheck.specs.Quick.{idle_at}
+use Rattle.bytecheck.specs.Pairs.{stamps_of, track_at}
 use Rattle.bytecheck.specs.declared.pairs.Track.{Track}
 use Rattle.bytecheck.proofs.Passing.{passed_on, passed-onward, passed-inside}
 use Rattle.bytecheck.proofs.Access.{Going}
@@ -39,12 +39,12 @@ module _ (c : tie.After-past-idle invariant-loop decreases-loop) where
   bytes = turn.before.before.before.before.args.bytes.now
 
   -- DESL words or a sleep
-  by-idle : Passed timing (words_of bytes) (trackAt turn.loop.track) (idleAt c.past-idle.result (stampsOf turn.loop.track))
+  by-idle : Passed timing (words_of bytes) (track_at turn.loop.track) (idle_at c.past-idle.result (stamps_of turn.loop.track))
   by-idle = rw c.before.before.current.ensures at c.past-idle.ensures.1 turn.loop.inv.tracked.due
 
 -- and then reads and writes
 turned : (c : tie.After-past-pairs invariant-loop decreases-loop) → let d = c.before.before.before.before in
-    Passed (timing d) (words_of (bytes d)) (trackAt (turn d).loop.track) (trackAt c.past_pairs.result)
+    Passed (timing d) (words_of (bytes d)) (track_at (turn d).loop.track) (track_at c.past_pairs.result)
 turned c =
     let d = c.before.before.before.before in
     passed_on (by-idle d) (passed_on c.before.past-gaps.ensures.1 c.past_pairs.ensures.1)
@@ -74,7 +74,7 @@ loop-holds c =
             low = free.1;
             fits = search rules;
             two = refl;
-            due = c.before.in-time.ensures.1;
+            due = c.before.in_time.ensures.1;
             free = free.0;
           };
       passed = none;

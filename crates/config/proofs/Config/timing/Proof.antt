@@ -4,26 +4,26 @@ use borrow.Author.Tests.{not-true, not-false}
 use mathlib.Core.Path.{◌≡◌, sym, ◌∙◌}
 use mathlib.Core.Bool.{true}
 use native.Mathlib.Omega.{arith}
-use Rattle.config.specs.Configuration.{partFits, wiringFits, periodFits, countsFit, refreshFits}
-use Rattle.config.proofs.Bounds.{cl-bounds, count-bounds, period-bounds}
+use Rattle.config.specs.Configuration.{part_fits, wiring_fits, period_fits, counts_fit, refresh_fits}
+use Rattle.config.proofs.Bounds.{cl_bounds, count_bounds, period_bounds}
 use Rattle.config.proofs.Config.timing.Statement.{statement}
 use Rattle.config.proofs.Config.timing.Tie as tie
 
 -- what the tests that were passed say
-part : (c : tie.Else1) → partFits c.before.before.args.self ≡ true
+part : (c : tie.Else1) → part_fits c.before.before.args.self ≡ true
 part c = sym c.before.part-fits.ensures ∙ not-false _ c.if1.false
 
-wiring : (c : tie.Else2) → wiringFits c.before.before.before.before.args.self ≡ true
+wiring : (c : tie.Else2) → wiring_fits c.before.before.before.before.args.self ≡ true
 wiring c = sym c.before.wiring-fits.ensures ∙ not-false _ c.if2.false
 
-period : (c : tie.Else3) → periodFits c.before.before.before.before.before.before.args.self ≡ true
+period : (c : tie.Else3) → period_fits c.before.before.before.before.before.before.args.self ≡ true
 period c = sym c.before.period-fits.ensures ∙ not-false _ c.if3.false
 
-counts : (c : tie.Else4) → countsFit c.before.before.before.before.before.before.before.before.args.self ≡ true
+counts : (c : tie.Else4) → counts_fit c.before.before.before.before.before.before.before.before.args.self ≡ true
 counts c = sym c.before.counts-fit.ensures ∙ not-false _ c.if4.false
 
 refresh : (c : tie.Else5)
-    → refreshFits c.before.before.before.before.before.before.before.before.before.before.args.self ≡ true
+    → refresh_fits c.before.before.before.before.before.before.before.before.before.before.args.self ≡ true
 refresh c = sym c.before.refresh-fits.ensures ∙ not-false _ c.if5.false
 
 part-fits-requires : tie.Need-part-fits-requires
@@ -39,7 +39,7 @@ returns-2 : tie.Need-returns-2
 returns-2 c = rw (part c.before.before, ← c.before.wiring-fits.ensures, not-true c.before.wiring-fits.result c.if2.true)
 
 period-fits-requires : tie.Need-period-fits-requires
-period-fits-requires c κs = cl-bounds c.before.before.before.before.args.self (part c.before.before)
+period-fits-requires c κs = cl_bounds c.before.before.before.before.args.self (part c.before.before)
 
 returns-3 : tie.Need-returns-3
 returns-3 c =
@@ -81,9 +81,9 @@ derived-requires : tie.Need-derived-requires
 derived-requires c κs =
     let self = c.before.before.before.before.before.before.before.before.before.before.args.self in
     let p = part c.before.before.before.before.before.before.before.before in
-    let cl = cl-bounds self p in
-    let ps = period-bounds self p (period c.before.before.before.before) in
-    let n = count-bounds self (counts c.before.before) in
+    let cl = cl_bounds self p in
+    let ps = period_bounds self p (period c.before.before.before.before) in
+    let n = count_bounds self (counts c.before.before) in
     omega arith
 
 returns-6 : tie.Need-returns-6

@@ -3,8 +3,8 @@ use mathlib.Core.Path.{◌≡◌, refl, sym, ◌∙◌, ap}
 use mathlib.Core.Bool.{Bool, true, false, cond, true≢false}
 use borrow.Author.Rules.{rules}
 use borrow.Author.Tests.{not-true}
-use Rattle.queue.specs.Queue.{requestAt}
-use Rattle.scheduler.specs.Pairs.{pairWords, isOpen, chosenAt, nextPair}
+use Rattle.queue.specs.Queue.{request_at}
+use Rattle.scheduler.specs.Pairs.{pair_words, is_open, chosen_at, next_pair}
 use Rattle.scheduler.specs.declared.OpenPair.{OpenPair}
 use Rattle.scheduler.specs.declared.OpenPair.TheVariants.{Nothing, Extended, Regular, Refresh, Waiting}
 use Rattle.controller.specs.Steps.{passes}
@@ -12,7 +12,7 @@ use Rattle.controller.proofs.next.opens_next.Statement.{statement}
 use Rattle.controller.proofs.next.opens_next.Tie as tie
 
 -- none stays none
-none-opens : (o : OpenPair) (b : Bool) → isOpen o ≡ false → Nothing ≡ cond b o Nothing
+none-opens : (o : OpenPair) (b : Bool) → is_open o ≡ false → Nothing ≡ cond b o Nothing
 none-opens Nothing true e = refl
 none-opens Nothing false e = refl
 none-opens Extended b e = absurd (true≢false e)
@@ -22,10 +22,10 @@ none-opens (Waiting place) b e = absurd (true≢false e)
 
 -- the pair that comes next
 next : (c : tie.After-next-pair) → let a = c.before.before.before.args in let s = a.controller in
-    c.next-pair.result ≡ nextPair a.timing s.stamps s.clock (chosenAt a.place s.count)
+    c.next-pair.result ≡ next_pair a.timing s.stamps s.clock (chosen_at a.place s.count)
 next c =
     let a = c.before.before.before.args in
-    c.next-pair.ensures ∙ ap (nextPair a.timing a.controller.stamps a.controller.clock) c.before.Chosen-at.ensures
+    c.next-pair.ensures ∙ ap (next_pair a.timing a.controller.stamps a.controller.clock) c.before.Chosen-at.ensures
 
 -- where one was asked for its words, what came before
 abbrev asked : tie.After-pair-words → tie.After-next-pair
@@ -33,11 +33,11 @@ asked c = c.before.before.before.before.before
 
 -- its words
 words : (c : tie.After-pair-words) → let n = asked c in let a = n.before.before.before.args in
-    c.pair-words.result ≡ pairWords a.timing n.next-pair.result (requestAt a.place a.controller.waiting)
+    c.pair-words.result ≡ pair_words a.timing n.next-pair.result (request_at a.place a.controller.waiting)
 words c =
     let n = asked c in
     let t = n.before.before.before.args.timing in
-    c.pair-words.ensures ∙ ap (pairWords t n.next-pair.result) c.before.request-at.ensures
+    c.pair-words.ensures ∙ ap (pair_words t n.next-pair.result) c.before.request-at.ensures
 
 -- and whether they pass
 pass : (c : tie.After-passes) → let a = (asked c.before).before.before.before.args in let s = a.controller in
@@ -58,7 +58,7 @@ returns c =
     let o = c.before.before in
     let a = o.before.before.before.args in
     let s = a.controller in
-    let w = pairWords a.timing o.next-pair.result (requestAt a.place s.waiting) in
+    let w = pair_words a.timing o.next-pair.result (request_at a.place s.waiting) in
     let none = sym c.before.is_open.ensures ∙ not-true c.before.is_open.result c.if1.true in
     rw (← next o) (none-opens o.next-pair.result (passes a.timing s.stamps s.clock w) none)
 

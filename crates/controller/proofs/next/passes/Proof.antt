@@ -2,16 +2,16 @@
 use Prim.Native.Nat.{◌+◌}
 use mathlib.Core.Path.{◌≡◌}
 use borrow.Author.Rules.{rules}
-use Rattle.rules.specs.Breaches.{wordBreach}
+use Rattle.rules.specs.Breaches.{word_breach}
 use Rattle.controller.proofs.next.passes.Statement.{statement}
 use Rattle.controller.proofs.next.passes.Tie as tie
 
 first : (c : tie.After-word-breach) → let a = c.before.args in
-    c.word-breach.result ≡ wordBreach a.timing a.stamps a.clock 0xC0000 a.pair.first
+    c.word-breach.result ≡ word_breach a.timing a.stamps a.clock 0xC0000 a.pair.first
 first c = c.word-breach.ensures
 
 second : (c : tie.After-word-breach2) → let a = c.before.before.args in
-    c.word-breach2.result ≡ wordBreach a.timing a.stamps (a.clock + 1) a.pair.first a.pair.second
+    c.word-breach2.result ≡ word_breach a.timing a.stamps (a.clock + 1) a.pair.first a.pair.second
 second c = c.word-breach2.ensures
 
 word-breach-requires : tie.Need-word-breach-requires

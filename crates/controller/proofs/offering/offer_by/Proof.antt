@@ -6,8 +6,8 @@ use lib.Dec.{ltb}
 use native.Mathlib.Omega.{arith}
 use borrow.Author.Tests.{not-true, not-false, lt-ltb, le-ltb}
 use borrow.Author.Rules.{rules}
-use Rattle.writing.specs.Writing.{requestFits}
-use Rattle.controller.specs.Steps.{stateFits}
+use Rattle.writing.specs.Writing.{request_fits}
+use Rattle.controller.specs.Steps.{state_fits}
 use Rattle.controller.proofs.Parts.{in_parts}
 use Rattle.controller.proofs.offering.offer_by.Statement.{statement}
 use Rattle.controller.proofs.offering.offer_by.Tie as tie
@@ -19,7 +19,7 @@ start c = c.before.before
 abbrev both : tie.After-requests-fit → Bool
 both c = c.before.past_fits.result && c.requests-fit.result
 
-tested : (c : tie.After-requests-fit) → let a = (start c).args in stateFits a.timing a.controller ≡ both c
+tested : (c : tie.After-requests-fit) → let a = (start c).args in state_fits a.timing a.controller ≡ both c
 tested c =
     let a = (start c).args in
     let past = c.before.past_fits in
@@ -27,16 +27,16 @@ tested c =
     in_parts a.timing a.controller past.result requests.result past.ensures requests.ensures
 
 -- what each test tells
-unfit : (c : tie.Then1) → let a = (start c.before).args in stateFits a.timing a.controller ≡ false
+unfit : (c : tie.Then1) → let a = (start c.before).args in state_fits a.timing a.controller ≡ false
 unfit c = tested c.before ∙ not-true (both c.before) c.if1.true
 
-fits : (c : tie.Else1) → let a = (start c.before).args in stateFits a.timing a.controller ≡ true
+fits : (c : tie.Else1) → let a = (start c.before).args in state_fits a.timing a.controller ≡ true
 fits c = tested c.before ∙ not-false (both c.before) c.if1.false
 
-out_of_range : (c : tie.Then2) → let a = (start c.before.before.before).args in requestFits a.timing a.request ≡ false
+out_of_range : (c : tie.Then2) → let a = (start c.before.before.before).args in request_fits a.timing a.request ≡ false
 out_of_range c = sym c.before.request-fits.ensures ∙ not-true c.before.request-fits.result c.if2.true
 
-in-range : (c : tie.Else2) → let a = (start c.before.before.before).args in requestFits a.timing a.request ≡ true
+in-range : (c : tie.Else2) → let a = (start c.before.before.before).args in request_fits a.timing a.request ≡ true
 in-range c = sym c.before.request-fits.ensures ∙ not-false c.before.request-fits.result c.if2.false
 
 -- how many wait

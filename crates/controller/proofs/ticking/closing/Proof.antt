@@ -4,9 +4,9 @@ use mathlib.Core.Path.{◌≡◌, ◌∙◌, ap}
 use mathlib.Core.Bool.{Bool, cond}
 use mathlib.Core.List.{List}
 use borrow.Author.Rules.{rules}
-use Rattle.queue.specs.Place.{closedUp}
-use Rattle.queue.specs.Queue.{vacant, requestAt}
-use Rattle.scheduler.specs.Pairs.{pairWords, placeOf}
+use Rattle.queue.specs.Place.{closed_up}
+use Rattle.queue.specs.Queue.{vacant, request_at}
+use Rattle.scheduler.specs.Pairs.{pair_words, place_of}
 use Rattle.command.specs.declared.operation.Request.{Request}
 use Rattle.controller.specs.declared.Controller.{Controller}
 use Rattle.controller.proofs.ticking.closing.Statement.{statement}
@@ -14,22 +14,22 @@ use Rattle.controller.proofs.ticking.closing.Tie as tie
 
 -- the words of the open pair
 words : (c : tie.After-pair-words) → let a = c.before.before.before.before.before.before.args in let s = a.controller in
-    c.pair-words.result ≡ pairWords a.timing s.opened (requestAt (placeOf s.opened) s.waiting)
+    c.pair-words.result ≡ pair_words a.timing s.opened (request_at (place_of s.opened) s.waiting)
 words c =
     let a = c.before.before.before.before.before.before.args in
     let s = a.controller in
     let place = c.before.before.place_of.ensures in
-    let request = c.before.request-at.ensures ∙ ap (λ p. requestAt p s.waiting) place in
-    c.pair-words.ensures ∙ ap (pairWords a.timing s.opened) request
+    let request = c.before.request-at.ensures ∙ ap (λ p. request_at p s.waiting) place in
+    c.pair-words.ensures ∙ ap (pair_words a.timing s.opened) request
 
 -- a state's places, once the request at a place has left or none has
 abbrev left : Bool → Controller → ℕ → List Request
-left leaves s p = cond leaves (closedUp vacant p s.count s.waiting) s.waiting
+left leaves s p = cond leaves (closed_up vacant p s.count s.waiting) s.waiting
 
 -- what is left of the queue
 queue : (c : tie.After-requests-left) → let o = c.before.before.before in
     let s = o.before.before.before.before.before.before.before.args.controller in
-    c.requests-left.result ≡ left o.of-waiting.result s (placeOf s.opened)
+    c.requests-left.result ≡ left o.of-waiting.result s (place_of s.opened)
 queue c =
     let o = c.before.before.before in
     let p = o.before.before.before in

@@ -1,24 +1,24 @@
 -- The pair that opens is `opens_next`'s answer, and its words are made from the request at the chosen place.
 use mathlib.Core.Path.{◌≡◌, ◌∙◌, ap}
 use borrow.Author.Rules.{rules}
-use Rattle.queue.specs.Queue.{requestAt}
-use Rattle.scheduler.specs.Pairs.{pairWords}
-use Rattle.controller.specs.Steps.{opensNext}
+use Rattle.queue.specs.Queue.{request_at}
+use Rattle.scheduler.specs.Pairs.{pair_words}
+use Rattle.controller.specs.Steps.{opens_next}
 use Rattle.controller.proofs.ticking.starting.Statement.{statement}
 use Rattle.controller.proofs.ticking.starting.Tie as tie
 
 -- the pair that opens
 next : (c : tie.After-opens-next) → let a = c.before.before.before.before.args in
-    c.opens-next.result ≡ opensNext a.timing a.controller a.place
+    c.opens-next.result ≡ opens_next a.timing a.controller a.place
 next c = c.opens-next.ensures
 
 -- its words
 words : (c : tie.After-pair-words) → let n = c.before.before in let a = n.before.before.before.before.args in
-    c.pair-words.result ≡ pairWords a.timing n.opens-next.result (requestAt a.place a.controller.waiting)
+    c.pair-words.result ≡ pair_words a.timing n.opens-next.result (request_at a.place a.controller.waiting)
 words c =
     let n = c.before.before in
     let t = n.before.before.before.before.args.timing in
-    c.pair-words.ensures ∙ ap (pairWords t n.opens-next.result) c.before.request-at.ensures
+    c.pair-words.ensures ∙ ap (pair_words t n.opens-next.result) c.before.request-at.ensures
 
 opens-next-requires : tie.Need-opens-next-requires
 opens-next-requires c κs = search rules

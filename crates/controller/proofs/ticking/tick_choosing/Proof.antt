@@ -6,9 +6,9 @@ use lib.Dec.{ltb}
 use native.Mathlib.Omega.{arith}
 use borrow.Author.Tests.{not-true, not-false, lt-ltb, le-ltb}
 use borrow.Author.Rules.{rules}
-use Rattle.scheduler.specs.Pairs.{isOpen}
+use Rattle.scheduler.specs.Pairs.{is_open}
 use Rattle.scheduler.specs.declared.OpenPair.{OpenPair}
-use Rattle.controller.specs.Steps.{stateFits}
+use Rattle.controller.specs.Steps.{state_fits}
 use Rattle.controller.proofs.Parts.{in_parts}
 use Rattle.controller.proofs.ticking.tick_choosing.Statement.{statement}
 use Rattle.controller.proofs.ticking.tick_choosing.Tie as tie
@@ -20,7 +20,7 @@ start c = c.before.before
 abbrev both : tie.After-requests-fit → Bool
 both c = c.before.past_fits.result && c.requests-fit.result
 
-tested : (c : tie.After-requests-fit) → let a = (start c).args in stateFits a.timing a.controller ≡ both c
+tested : (c : tie.After-requests-fit) → let a = (start c).args in state_fits a.timing a.controller ≡ both c
 tested c =
     let a = (start c).args in
     let past = c.before.past_fits in
@@ -28,10 +28,10 @@ tested c =
     in_parts a.timing a.controller past.result requests.result past.ensures requests.ensures
 
 -- what each test tells
-unfit : (c : tie.Then1) → let a = (start c.before).args in stateFits a.timing a.controller ≡ false
+unfit : (c : tie.Then1) → let a = (start c.before).args in state_fits a.timing a.controller ≡ false
 unfit c = tested c.before ∙ not-true (both c.before) c.if1.true
 
-fits : (c : tie.Else1) → let a = (start c.before).args in stateFits a.timing a.controller ≡ true
+fits : (c : tie.Else1) → let a = (start c.before).args in state_fits a.timing a.controller ≡ true
 fits c = tested c.before ∙ not-false (both c.before) c.if1.false
 
 -- the clock of the state
@@ -48,10 +48,10 @@ within c = lt-ltb (clock c.before.before) 16777216 (omega arith)
 abbrev opened : tie.After-is-open → OpenPair
 opened c = (start c.before.before.before.before).args.controller.opened
 
-is_open : (c : tie.Then3) → isOpen (opened c.before) ≡ true
+is_open : (c : tie.Then3) → is_open (opened c.before) ≡ true
 is_open c = sym c.before.is_open.ensures ∙ c.if3.true
 
-none_open : (c : tie.Else3) → isOpen (opened c.before) ≡ false
+none_open : (c : tie.Else3) → is_open (opened c.before) ≡ false
 none_open c = sym c.before.is_open.ensures ∙ c.if3.false
 
 past-fits-requires : tie.Need-past-fits-requires

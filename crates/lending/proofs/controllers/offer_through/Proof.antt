@@ -34,7 +34,7 @@ use denote.Exit.{yes}
 use Rattle.command.specs.declared.operation.Request.{Request}
 use Rattle.command.specs.contracts.operation.Request as Q
 use Rattle.command.proofs.operation.Request.TheLaws as Q'
-use Rattle.controller.specs.Steps.{offered, offerOf}
+use Rattle.controller.specs.Steps.{offered, offer_of}
 use Rattle.controller.specs.declared.CallAnswer.{CallAnswer}
 use Rattle.controller.specs.declared.Controller.{Controller}
 use Rattle.controller.specs.declared.Offered.{Offered}
@@ -44,8 +44,8 @@ use Rattle.controller.specs.contracts.Offered as S
 use Rattle.controller.proofs.Offered.TheLaws as S'
 use Rattle.controller.specs.contracts.CallAnswer as G
 use Rattle.controller.proofs.CallAnswer.TheLaws as G'
-use Rattle.borrowed.proofs.Locals.{cell, begins, freed, held, sets, lands-in}
-use Rattle.borrowed.proofs.Behind.{Known, owned-data, typed, reached}
+use Rattle.borrowed.proofs.Locals.{cell, begins, freed, held, sets, lands_in}
+use Rattle.borrowed.proofs.Behind.{Known, owned_data, typed, reached}
 use Rattle.lending.proofs.LentLocal.{Ref, unbounded, lent, returned, regained}
 use Rattle.borrowed.specs.contracts.offer as callee
 use Rattle.borrowed.proofs.offer.Symbol as callee-def
@@ -92,15 +92,15 @@ module _ {M : Type 1} {𝓤 : Ura M} (𝓛 : Logic 𝓤) (mem : Memory → SProp
     abbrev Post : Val → SProp 𝓤
     Post = (walk_of 𝓛 through.ended stayed (through.clauses 𝓛 mem run)).post ((tt, tt, tt, (h, (request, tt)), at), tt)
 
-    exits : (r : CallAnswer) (v : Val) (z : Controller) → offered (given r z) ≡ offerOf h request
+    exits : (r : CallAnswer) (v : Val) (z : Controller) → offered (given r z) ≡ offer_of h request
         → Is S.the_row (given r z) (out v z ∷ []) → Sq 𝓛 [] (prop (Post (out v z)))
     exits r v z e is =
         suffices ! _ (ends_at 𝓛 through.ended stayed (through.clauses 𝓛 mem run) ((tt, tt, tt, (h, (request, tt)), at), tt)
         (out v z) (given r z) (tt, (tt, tt)) (tt, (tt, tt))) $
         says ! e $ nothing ! $ frame ! $ nothing ! $
-        owned-data ! Q.the_type Q'.the_plain request _ request-is $ fjoin ! $
-        owned-data ! T.the_type T'.the_plain h _ was $ fjoin ! $ frame ! $
-        owned-data ! S.the_type S'.the_plain (given r z) _ is $ done !
+        owned_data ! Q.the_type Q'.the_plain request _ request-is $ fjoin ! $
+        owned_data ! T.the_type T'.the_plain h _ was $ fjoin ! $ frame ! $
+        owned_data ! S.the_type S'.the_plain (given r z) _ is $ done !
 
     module _ (l ν : ℕ) (γ : GName) where
       -- what the callee's triple binds outside, and that the caller has what it asks
@@ -119,7 +119,7 @@ module _ {M : Type 1} {𝓤 : Ura M} (𝓛 : Logic 𝓤) (mem : Memory → SProp
       goes : Sq 𝓛 (‵ (Ref T.the_type [] l ν γ h) ∷ ‵ (flft (ν ∷ []) (PosShare.left full_share)) ∷ []) (prop (Callee.pre to))
       goes =
           nothing ! $ move ! (2 ∷ 0 ∷ []) $ join ! $ nothing ! $
-          owned-data ! Q.the_type Q'.the_plain request _ request-is $ fjoin ! $
+          owned_data ! Q.the_type Q'.the_plain request _ request-is $ fjoin ! $
           move ! (2 ∷ 0 ∷ []) $ fjoin ! $ move ! (1 ∷ 0 ∷ []) $ join ! $ frame ! $ done !
 
     module _ (C : Calls 𝓤 H) (Λ : Loops 𝓤 H) (fm : FmC 𝓤 H 𝓛.laws C) (known : Triple 𝓤 (C #callee) Callee) where
@@ -131,17 +131,17 @@ module _ {M : Type 1} {𝓤 : Ura M} (𝓛 : Logic 𝓤) (mem : Memory → SProp
           let l = bs.1.1.1.0 in
           sets ! (cell 0 3) refl (of_opd ! (held ! (cell 0 1) refl)) (typed 𝓛 T.the_type T'.the_laws h was) $
           sets ! (cell 0 5) refl (addr ! (from ! (stop !))) (tt, tt) $
-          unbounded ! tt $ owned-data ! T.the_type T'.the_plain h _ was $
+          unbounded ! tt $ owned_data ! T.the_type T'.the_plain h _ was $
           lent ! tt T.the_type [] full_share l (cell 0 3) h mach refl (λ ν γ. use2 𝓛 (raw (Callee.pre (to l ν γ))) (goes l ν γ).prf $
           -- [what `offer` asks; a token]
           calls_at ! fm Callee known (to l ν γ) (and_then ! (held ! (cell 2 5) refl) (and_then ! (held ! (cell 2 2) refl) (no_more !)))
           (λ v.
           returned ! tt v G.the_row (‵ (flft (ν ∷ []) (PosShare.left full_share)) ⊛ ‵ ftrue)
           (λ (zs : Controller × (Unit {0} × Unit {0})). fres γ ((T.the_row).coded.code zs.0)) (λ zs. fsep ftrue ftrue)
-          (λ r zs. offered (given r zs.0) ≡ offerOf h request) (λ r zs e is.
+          (λ r zs. offered (given r zs.0) ≡ offer_of h request) (λ r zs e is.
           split ! $ move ! (1 ∷ []) $ drop ! $ move ! (0 ∷ 2 ∷ 1 ∷ []) $
           regained ! tt T.the_type [] full_share l (cell 0 3) T'.the_laws ν γ zs.0 refl (λ after. drop ! $ drop ! $
-          lands-in ! (cell 0 4) refl ((EL.lawful G.the_type G'.the_laws 𝓛 tt).typed r _ is).0 $
+          lands_in ! (cell 0 4) refl ((EL.lawful G.the_type G'.the_laws 𝓛 tt).typed r _ is).0 $
           sets ! (cell 0 6) refl (of_opd ! (held ! (cell 0 3) refl)) (typed 𝓛 T.the_type T'.the_laws zs.0 after) $
           sets ! (cell 0 0) refl (agg ! (and_then ! (held ! (cell 0 4) refl) (and_then ! (held ! (cell 0 6) refl) (no_more !))))
           ((LL.lawful S.the_type S'.the_laws 𝓛).typed (given r zs.0) _ (given_is r v zs.0 is after)).0 $

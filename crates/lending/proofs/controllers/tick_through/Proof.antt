@@ -29,7 +29,7 @@ use denote.Triple.Spec.{triple_of}
 use denote.Triple.Table.{cited}
 use denote.Triple.Walked.{says, Stays, stay_none, walk_of, Goes-none, ends_at}
 use denote.Exit.{yes}
-use Rattle.controller.specs.Steps.{ticked, tickOf}
+use Rattle.controller.specs.Steps.{ticked, tick_of}
 use Rattle.controller.specs.declared.Controller.{Controller}
 use Rattle.controller.specs.declared.Ticked.{Ticked}
 use Rattle.controller.specs.contracts.Controller as T
@@ -37,8 +37,8 @@ use Rattle.controller.proofs.Controller.TheLaws as T'
 use Rattle.controller.specs.contracts.Ticked as S
 use Rattle.controller.proofs.Ticked.TheLaws as S'
 use Rattle.borrowed.specs.declared.calls.Given as answers
-use Rattle.borrowed.proofs.Locals.{cell, begins, freed, held, held-field, sets, lands-in}
-use Rattle.borrowed.proofs.Behind.{Known, owned-data, read, typed, reached}
+use Rattle.borrowed.proofs.Locals.{cell, begins, freed, held, held_field, sets, lands_in}
+use Rattle.borrowed.proofs.Behind.{Known, owned_data, read, typed, reached}
 use Rattle.lending.proofs.LentLocal.{Ref, unbounded, lent, returned, regained}
 use Rattle.borrowed.specs.contracts.calls.Given as G
 use Rattle.borrowed.proofs.calls.Given.TheLaws as G'
@@ -80,13 +80,13 @@ module _ {M : Type 1} {𝓤 : Ura M} (𝓛 : Logic 𝓤) (mem : Memory → SProp
     abbrev Post : Val → SProp 𝓤
     Post = (walk_of 𝓛 through.ended stayed (through.clauses 𝓛 mem run)).post ((tt, tt, tt, (h, tt), (mach ∷ [], tt)), tt)
 
-    exits : (r : answers.Given) (z : Controller) → ticked (given r z) ≡ tickOf h → Is S.the_row (given r z) (out r z ∷ [])
+    exits : (r : answers.Given) (z : Controller) → ticked (given r z) ≡ tick_of h → Is S.the_row (given r z) (out r z ∷ [])
         → Sq 𝓛 [] (prop (Post (out r z)))
     exits r z e is =
         suffices ! _ (ends_at 𝓛 through.ended stayed (through.clauses 𝓛 mem run) ((tt, tt, tt, (h, tt), (mach ∷ [], tt)), tt)
         (out r z) (given r z) (tt, tt) (tt, tt)) $
-        says ! e $ nothing ! $ frame ! $ nothing ! $ owned-data ! T.the_type T'.the_plain h _ was $ fjoin ! $ frame ! $
-        owned-data ! S.the_type S'.the_plain (given r z) _ is $ done !
+        says ! e $ nothing ! $ frame ! $ nothing ! $ owned_data ! T.the_type T'.the_plain h _ was $ fjoin ! $ frame ! $
+        owned_data ! S.the_type S'.the_plain (given r z) _ is $ done !
 
     module _ (l ν : ℕ) (γ : GName) where
       -- what the callee's triple binds outside, and that the caller has what it asks
@@ -105,19 +105,19 @@ module _ {M : Type 1} {𝓤 : Ura M} (𝓛 : Logic 𝓤) (mem : Memory → SProp
           begins ! C Λ code.function (mach ∷ []) _ (typed 𝓛 T.the_type T'.the_laws h was, tt) (λ bs. let l = bs.1.1.0 in
           sets ! (cell 0 2) refl (of_opd ! (held ! (cell 0 1) refl)) (typed 𝓛 T.the_type T'.the_laws h was) $
           sets ! (cell 0 4) refl (addr ! (from ! (stop !))) (tt, tt) $
-          unbounded ! tt $ owned-data ! T.the_type T'.the_plain h _ was $
+          unbounded ! tt $ owned_data ! T.the_type T'.the_plain h _ was $
           lent ! tt T.the_type [] full_share l (cell 0 2) h mach refl (λ ν γ. use2 𝓛 (raw (Callee.pre (to l ν γ))) (goes l ν γ).prf $
           -- [what `tick` asks; a token]
           calls_at ! fm Callee known (to l ν γ) (and_then ! (held ! (cell 2 4) refl) (no_more !)) (λ v.
           returned ! tt v G.the_row (‵ (flft (ν ∷ []) (PosShare.left full_share)) ⊛ ‵ ftrue)
           (λ (zs : Controller × Unit {0}). fres γ ((T.the_row).coded.code zs.0)) (λ zs. ftrue)
-          (λ r zs. ticked (given r zs.0) ≡ tickOf h) (λ r zs e is. read ! v G.the_type G'.the_laws r is (λ is.
+          (λ r zs. ticked (given r zs.0) ≡ tick_of h) (λ r zs e is. read ! v G.the_type G'.the_laws r is (λ is.
           split ! $ move ! (1 ∷ []) $ drop ! $ move ! (0 ∷ 2 ∷ 1 ∷ []) $
           regained ! tt T.the_type [] full_share l (cell 0 2) T'.the_laws ν γ zs.0 refl (λ after. drop ! $ drop ! $
-          lands-in ! (cell 0 3) refl (typed 𝓛 G.the_type G'.the_laws r is) $
+          lands_in ! (cell 0 3) refl (typed 𝓛 G.the_type G'.the_laws r is) $
           sets ! (cell 0 5) refl (of_opd ! (held ! (cell 0 2) refl)) (typed 𝓛 T.the_type T'.the_laws zs.0 after) $
-          sets ! (cell 0 0) refl (agg ! (and_then ! (held-field ! (cell 0 3) refl (sub ! 0 refl (whole !)))
-          (and_then ! (held-field ! (cell 0 3) refl (sub ! 1 refl (whole !))) (and_then ! (held ! (cell 0 5) refl) (no_more !)))))
+          sets ! (cell 0 0) refl (agg ! (and_then ! (held_field ! (cell 0 3) refl (sub ! 0 refl (whole !)))
+          (and_then ! (held_field ! (cell 0 3) refl (sub ! 1 refl (whole !))) (and_then ! (held ! (cell 0 5) refl) (no_more !)))))
           (typed 𝓛 S.the_type S'.the_laws (given r zs.0) (given_is r zs.0 is after)) $
           returns ! (look ! (cell 0 0) refl) $ freed ! $ freed ! $ freed ! $ freed ! $ freed ! $ freed ! $ free0 ! $
           exits r zs.0 e (given_is r zs.0 is after)))))))

@@ -49,10 +49,10 @@ use Rattle.cursor.specs.Cursor.{AdvancePromised, NewPromised}
 use Rattle.cursor.specs.declared.TraceCursor.{TraceCursor}
 use Rattle.walks.specs.declared.Moved.{Moved}
 use Rattle.walks.specs.declared.Progress.{Progress}
-use Rattle.borrowed.proofs.Locals.{Blocks, env, Content, room, holds, locals, cell, begins, aside, freed, held, held-field, sets, lands-in}
-use Rattle.borrowed.proofs.Behind.{typed, owned-data, told, reached}
-use Rattle.cursor.proofs.Cursors.{D, L, Cursor, with-checker, Words, Both, kept, changed, words_val, configVal, checkerVal, cursorVal}
-use Rattle.cursor.proofs.Cursors.{checker-is, words-typed, progress-typed, moved-typed, cursor-typed}
+use Rattle.borrowed.proofs.Locals.{Blocks, env, Content, room, holds, locals, cell, begins, aside, freed, held, held_field, sets, lands_in}
+use Rattle.borrowed.proofs.Behind.{typed, owned_data, told, reached}
+use Rattle.cursor.proofs.Cursors.{D, L, Cursor, with_checker, Words, Both, kept, changed, words_val, config_val, checker_val, cursor_val}
+use Rattle.cursor.proofs.Cursors.{checker_is, words-typed, progress-typed, moved-typed, cursor_typed}
 use Rattle.lending.proofs.LentLocal.{Ref, lent, returned, regained}
 use Rattle.cursor.specs.contracts.TraceCursor as T
 use Rattle.cursor.proofs.TraceCursor.TheLaws as T'
@@ -85,11 +85,11 @@ abbrev answered : Progress → Checker → Moved
 answered p k = record { progress = p; checker = k }
 
 abbrev movedVal : Val → Checker → Val
-movedVal w k = vstruct (vcons w (vcons (checkerVal k) vnil))
+movedVal w k = vstruct (vcons w (vcons (checker_val k) vnil))
 
 answer-is : (p : Progress) (w : Val) (k : Checker) → Is P.the_row p (w ∷ [])
-    → Is K.the_row k (checkerVal k ∷ []) → Is N.the_row (answered p k) (movedVal w k ∷ [])
-answer-is p w k isp isk = ((w ∷ [], (checkerVal k ∷ [], tt)), (refl, (isp, (isk, tt))))
+    → Is K.the_row k (checker_val k ∷ []) → Is N.the_row (answered p k) (movedVal w k ∷ [])
+answer-is p w k isp isk = ((w ∷ [], (checker_val k ∷ [], tt)), (refl, (isp, (isk, tt))))
 
 module _ {M : Type 1} {𝓤 : Ura M} (𝓛 : Logic 𝓤) (mem : Memory → SProp 𝓤) (run : Routine → Fun 𝓤) where
   -- the contracts that the proof cites
@@ -106,42 +106,42 @@ module _ {M : Type 1} {𝓤 : Ura M} (𝓛 : Logic 𝓤) (mem : Memory → SProp
     a = (s, (k, tt))
 
     abbrev at : List Val × (List Val × Unit {0})
-    at = (words_val s ∷ [], (checkerVal k ∷ [], tt))
+    at = (words_val s ∷ [], (checker_val k ∷ [], tt))
 
     -- what the parameters own
     abbrev Had : Fml
-    Had = Both κ s K.the_row k (checkerVal k ∷ [])
+    Had = Both κ s K.the_row k (checker_val k ∷ [])
 
     abbrev Post : Val → SProp 𝓤
     Post = (walk_of 𝓛 through.ended stayed (through.clauses 𝓛 mem run)).post (((κ, tt), (q, tt), tt, a, at), tt)
 
     -- the call of `new`: what it is passed, what it asks, and what is known of its result
     abbrev to-new : New.Ghost
-    to-new = (((κ, tt), (q, tt), tt, (s, (k.config, tt)), (words_val s ∷ [], (configVal k.config ∷ [], tt))), tt)
+    to-new = (((κ, tt), (q, tt), tt, (s, (k.config, tt)), (words_val s ∷ [], (config_val k.config ∷ [], tt))), tt)
 
-    both : Is F.the_row k.config (configVal k.config ∷ [])
-        → ent 𝓤 (sem 𝓛 (Words κ s)) (sem 𝓛 (Both κ s F.the_row k.config (configVal k.config ∷ [])))
+    both : Is F.the_row k.config (config_val k.config ∷ [])
+        → ent 𝓤 (sem 𝓛 (Words κ s)) (sem 𝓛 (Both κ s F.the_row k.config (config_val k.config ∷ [])))
     both is =
-        qed 𝓛 (‵ (Words κ s) ∷ []) ∵ nothing ! $ owned-data ! F.the_type F'.the_plain k.config _ is $ fjoin ! $ move !
+        qed 𝓛 (‵ (Words κ s) ∷ []) ∵ nothing ! $ owned_data ! F.the_type F'.the_plain k.config _ is $ fjoin ! $ move !
         (1 ∷ 0 ∷ []) $ fjoin ! $ done !
 
-    goes-new : Is F.the_row k.config (configVal k.config ∷ [])
+    goes-new : Is F.the_row k.config (config_val k.config ∷ [])
         → ent 𝓤 (on_entry 𝓛 through.signature (κ, tt) (q, tt) a at) (sep 𝓤 (New.pre to-new) (sem 𝓛 Had))
     goes-new is =
         qed 𝓛 ((‵ (flft κ q) ⊛ ‵ ftrue) ∷ ‵ Had ∷ []) ∵ move ! (1 ∷ []) $ use1 𝓛 (‵ Had ⊛ ‵ (Words κ s))
         (kept 𝓛 κ s K.the_row k _) $ split ! $
-        move ! (1 ∷ []) $ use1 𝓛 (‵ (Both κ s F.the_row k.config (configVal k.config ∷ []))) (both is) $ move ! (2 ∷ 0 ∷ []) $
+        move ! (1 ∷ []) $ use1 𝓛 (‵ (Both κ s F.the_row k.config (config_val k.config ∷ []))) (both is) $ move ! (2 ∷ 0 ∷ []) $
         use2 𝓛 (raw (New.pre to-new))
         (qed 𝓛
         ((‵ (flft κ q) ⊛ ‵ ftrue) ∷ ‵
-        (Both κ s F.the_row k.config (configVal k.config ∷ [])) ∷ []) ∵ join ! $ frame ! $ done !) $ frame ! $ done !
+        (Both κ s F.the_row k.config (config_val k.config ∷ [])) ∷ []) ∵ join ! $ frame ! $ done !) $ frame ! $ done !
 
     exits : (r : Progress) (w : Val) (z : Checker) → Is N.the_row (answered r z) (movedVal w z ∷ []) → MovePromised k s.now (answered r z)
         → Sq 𝓛 (‵ (flft κ q) ∷ ‵ Had ∷ []) (prop (Post (movedVal w z)))
     exits r w z is e =
         suffices ! _ (ends_at 𝓛 through.ended stayed (through.clauses 𝓛 mem run) (((κ, tt), (q, tt), tt, a, at), tt)
         (movedVal w z) (answered r z) (tt, (tt, tt)) (tt, (tt, tt))) $ says ! e $
-        nothing ! $ move ! (1 ∷ 0 ∷ []) $ join ! $ frame ! $ owned-data ! N.the_type N'.the_plain (answered r z) _ is $ move !
+        nothing ! $ move ! (1 ∷ 0 ∷ []) $ join ! $ frame ! $ owned_data ! N.the_type N'.the_plain (answered r z) _ is $ move !
         (1 ∷ 0 ∷ []) $ done !
 
     -- the call of `advance`, on the local at l
@@ -167,7 +167,7 @@ module _ {M : Type 1} {𝓤 : Ura M} (𝓛 : Logic 𝓤) (mem : Memory → SProp
     -- ---- the walk, from its last step to its first
     module _ (C : Calls 𝓤 H) (Λ : Loops 𝓤 H) (fm : FmC 𝓤 H 𝓛.laws C)
         (known-new : Triple 𝓤 (C #new) New) (known-advance : Triple 𝓤 (C #advance) Advance)
-        (checker-was : Is K.the_row k (checkerVal k ∷ [])) where
+        (checker-was : Is K.the_row k (checker_val k ∷ [])) where
       module _ (bs : Blocks body.locals) where
         -- from the statement t on: Δ stands before the locals, which hold ss
         abbrev From : Body → List (Item 𝓤) → List Content → Type 1
@@ -177,21 +177,21 @@ module _ {M : Type 1} {𝓤 : Ura M} (𝓛 : Logic 𝓤) (mem : Memory → SProp
         -- d is what `new` made, and the cursor that is lent lies at l
         module _ (d : TraceCursor) (over : d.words ≡ s) where
           abbrev h : TraceCursor
-          h = with-checker d k
+          h = with_checker d k
 
           abbrev l : ℕ
           l = bs.1.1.1.0
 
           -- the answer is made of what `advance` gave and left
-          answers : (r : Progress) (w : Val) (z : TraceCursor) → Is P.the_row r (w ∷ []) → Is (Cursor κ) z (cursorVal κ z ∷ [])
+          answers : (r : Progress) (w : Val) (z : TraceCursor) → Is P.the_row r (w ∷ []) → Is (Cursor κ) z (cursor_val κ z ∷ [])
               → AdvancePromised h r z
               → From body.t-6 (‵ (flft κ q) ∷ ‵ Had ∷ [])
-              (room ∷ holds (words_val s) ∷ holds (checkerVal k) ∷ holds (cursorVal κ z) ∷ holds w ∷ holds (cursorVal κ d) ∷ holds
+              (room ∷ holds (words_val s) ∷ holds (checker_val k) ∷ holds (cursor_val κ z) ∷ holds w ∷ holds (cursor_val κ d) ∷ holds
               (vptr l 0) ∷ [])
           answers r w z is isz e =
-              let left_is = checker-is κ z isz in
+              let left_is = checker_is κ z isz in
               let moved-is = answer-is r w z.checker is left_is in
-              sets ! (cell 2 7) refl (of_opd ! (held-field ! (cell 2 3) refl (sub ! 1 refl (whole !))))
+              sets ! (cell 2 7) refl (of_opd ! (held_field ! (cell 2 3) refl (sub ! 1 refl (whole !))))
               (typed 𝓛 K.the_type K'.the_laws z.checker left_is) $
               sets ! (cell 2 0) refl (agg ! (and_then ! (held ! (cell 2 4) refl) (and_then ! (held ! (cell 2 7) refl) (no_more !))))
               (moved-typed 𝓛 (answered r z.checker) _ moved-is) $
@@ -200,11 +200,11 @@ module _ {M : Type 1} {𝓤 : Ura M} (𝓛 : Logic 𝓤) (mem : Memory → SProp
               exits r w z.checker moved-is (rw over at e.1)
 
           -- the cursor is lent to `advance`, and comes back
-          lends : From body.t-4 (‵ ((Cursor κ).own_val h (cursorVal κ h ∷ [])) ∷ ‵ (flft κ q) ∷ ‵ Had ∷ [])
-              (room ∷ holds (words_val s) ∷ holds (checkerVal k) ∷ holds (cursorVal κ h) ∷ room ∷ holds (cursorVal κ d) ∷ [])
+          lends : From body.t-4 (‵ ((Cursor κ).own_val h (cursor_val κ h ∷ [])) ∷ ‵ (flft κ q) ∷ ‵ Had ∷ [])
+              (room ∷ holds (words_val s) ∷ holds (checker_val k) ∷ holds (cursor_val κ h) ∷ room ∷ holds (cursor_val κ d) ∷ [])
           lends =
               sets ! (cell 3 6) refl (addr ! (from ! (stop !))) (tt, tt) $
-              lent ! tt (E κ) κ q l (cell 1 3) h (cursorVal κ h) refl (λ ν γ.
+              lent ! tt (E κ) κ q l (cell 1 3) h (cursor_val κ h) refl (λ ν γ.
               use3 𝓛 (raw (Advance.pre (to-advance h l ν γ))) (goes-advance h l ν γ).prf $
               calls_at ! fm Advance known-advance (to-advance h l ν γ) (and_then ! (held ! (cell 2 6) refl) (no_more !)) (λ w.
               returned ! tt w P.the_row (‵ (flft (ν ∷ κ) (PosShare.left q)) ⊛ (‵ (flft κ (PosShare.right q)) ⊛ ‵ ftrue))
@@ -212,32 +212,32 @@ module _ {M : Type 1} {𝓤 : Ura M} (𝓛 : Logic 𝓤) (mem : Memory → SProp
               (λ r zs. AdvancePromised h r zs.0) (λ r zs e is.
               split ! $ move ! (1 ∷ []) $ split ! $ move ! (1 ∷ []) $ drop ! $ move ! (1 ∷ 0 ∷ 2 ∷ []) $
               regained ! tt (E κ) κ q l (cell 1 3) (T'.the_laws (record { mir = erased; lft = κ })) ν γ zs.0 refl (λ isz. drop ! $
-              lands-in ! (cell 2 4) refl (progress-typed 𝓛 r w is) $ answers r w zs.0 is isz e))))
+              lands_in ! (cell 2 4) refl (progress-typed 𝓛 r w is) $ answers r w zs.0 is isz e))))
 
           -- the checker that the walk has reached is stored in the cursor
-          stores : Is (Cursor κ) d (cursorVal κ d ∷ [])
-              → From body.t-2 (‵ ((Cursor κ).own_val d (cursorVal κ d ∷ [])) ∷ ‵ (flft κ q) ∷ ‵ Had ∷ [])
-              (room ∷ holds (words_val s) ∷ holds (checkerVal k) ∷ room ∷ room ∷ holds (cursorVal κ d) ∷ [])
+          stores : Is (Cursor κ) d (cursor_val κ d ∷ [])
+              → From body.t-2 (‵ ((Cursor κ).own_val d (cursor_val κ d ∷ [])) ∷ ‵ (flft κ q) ∷ ‵ Had ∷ [])
+              (room ∷ holds (words_val s) ∷ holds (checker_val k) ∷ room ∷ room ∷ holds (cursor_val κ d) ∷ [])
           stores is =
-              sets ! (cell 3 3) refl (of_opd ! (held ! (cell 3 5) refl)) (cursor-typed 𝓛 erased κ d _ is) $
+              sets ! (cell 3 3) refl (of_opd ! (held ! (cell 3 5) refl)) (cursor_typed 𝓛 erased κ d _ is) $
               assigns ! (of_opd ! (held ! (cell 3 2) refl)) (from ! (fld ! refl (stop !)))
               (store_in ! (cell 3 3) (sub ! 1 refl (whole !)) (typed 𝓛 K.the_type K'.the_laws k checker-was)) $
-              use1 𝓛 (‵ ((Cursor κ).own_val h (cursorVal κ h ∷ []))) (changed 𝓛 κ d (cursorVal κ d) k checker-was) $ lends
+              use1 𝓛 (‵ ((Cursor κ).own_val h (cursor_val κ h ∷ []))) (changed 𝓛 κ d (cursor_val κ d) k checker-was) $ lends
 
         -- `new` is called, and what it makes is over the same words
-        makes : From body.t-1 (raw (New.pre to-new) ∷ ‵ Had ∷ []) (room ∷ holds (words_val s) ∷ holds (checkerVal k) ∷ [])
+        makes : From body.t-1 (raw (New.pre to-new) ∷ ‵ Had ∷ []) (room ∷ holds (words_val s) ∷ holds (checker_val k) ∷ [])
         makes =
             calls_at ! fm New known-new to-new
-            (and_then ! (held ! (cell 2 1) refl) (and_then ! (held-field ! (cell 2 2) refl (sub ! 0 refl (whole !))) (no_more !))) (λ u.
+            (and_then ! (held ! (cell 2 1) refl) (and_then ! (held_field ! (cell 2 2) refl (sub ! 0 refl (whole !))) (no_more !))) (λ u.
             told ! u (D κ) (L κ) (‵ (flft κ q) ⊛ ‵ ftrue) new.ended (κ, tt) (s, (k.config, tt)) (NewPromised s k.config) (λ d e is.
             move ! (1 ∷ []) $ split ! $ move ! (1 ∷ []) $ drop ! $ move ! (1 ∷ 0 ∷ []) $
-            lands-in ! (cell 3 5) refl (cursor-typed 𝓛 erased κ d _ is) $ stores d e.0 is))
+            lands_in ! (cell 3 5) refl (cursor_typed 𝓛 erased κ d _ is) $ stores d e.0 is))
 
       walk : Is (ShrSlice (named 0) κ u32) s (words_val s ∷ [])
-          → ent 𝓤 (on_entry 𝓛 through.signature (κ, tt) (q, tt) a at) (WpFn 𝓤 H C Λ code.function (words_val s ∷ checkerVal k ∷ []) Post)
+          → ent 𝓤 (on_entry 𝓛 through.signature (κ, tt) (q, tt) a at) (WpFn 𝓤 H C Λ code.function (words_val s ∷ checker_val k ∷ []) Post)
       walk words_are =
           qed 𝓛 (raw (on_entry 𝓛 through.signature (κ, tt) (q, tt) a at) ∷ []) ∵
-          begins ! C Λ code.function (words_val s ∷ checkerVal k ∷ []) _
+          begins ! C Λ code.function (words_val s ∷ checker_val k ∷ []) _
           ((tt, words-typed 𝓛 κ s words_are), (typed 𝓛 K.the_type K'.the_laws k checker-was, tt)) (λ bs.
           move ! (cell 0 8 ∷ []) $ use1 𝓛 (raw (New.pre to-new) ⊛ ‵ Had)
           (goes-new (LL.owed K.the_type K'.the_laws k _ checker-was).0) $ split ! $

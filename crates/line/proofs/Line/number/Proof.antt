@@ -4,14 +4,14 @@ use mathlib.Core.Path.{◌≡◌, refl, ◌∙◌}
 use native.Mathlib.Omega.{arith}
 use lib.ListN.{drop}
 use Rattle.line.specs.Lines.{appended}
-use Rattle.line.specs.Text.{digitsBy, powers, decimal}
+use Rattle.line.specs.Text.{digits_by, powers, decimal}
 use Rattle.line.proofs.Digits.{one_more, positive}
 use borrow.Author.Rules.{rules}
 use Rattle.line.proofs.Line.number.Statement.{statement}
 use Rattle.line.proofs.Line.number.Tie as tie
 
 abbrev invariant-loop : tie.invariant-loop
-invariant-loop n line₀ i₀ line i = (i ≤ 9) × (appended line (digitsBy (drop i powers) n) ≡ appended line₀ (decimal n))
+invariant-loop n line₀ i₀ line i = (i ≤ 9) × (appended line (digits_by (drop i powers) n) ≡ appended line₀ (decimal n))
 
 abbrev decreases-loop : tie.decreases-loop
 decreases-loop n line₀ i₀ line i = 9 - i

@@ -4,8 +4,8 @@ use native.Mathlib.Omega.{arith}
 use borrow.Author.Rules.{rules}
 use Rattle.line.specs.Text.{decimal}
 use Rattle.line.proofs.Digits.{decimal-length}
-use Rattle.marker.specs.Mark.{acceptedText}
-use Rattle.marker.proofs.Written.{three-pieces}
+use Rattle.marker.specs.Mark.{accepted_text}
+use Rattle.marker.proofs.Written.{three_pieces}
 use Rattle.marker.proofs.mark.accepted.Statement.{statement}
 use Rattle.marker.proofs.mark.accepted.Tie as tie
 
@@ -31,7 +31,7 @@ returns c =
     let word = c.before.before.piece.ensures in
     let number = c.before.number.ensures in
     let feed = c.push.ensures in
-    three-pieces acceptedText (decimal n) (10 ∷ []) (omega (arith, decimal-length n)) empty word number feed
+    three_pieces accepted_text (decimal n) (10 ∷ []) (omega (arith, decimal-length n)) empty word number feed
 
 pub accepted-spec : {M : Type 1} → statement M
 accepted-spec =

@@ -4,8 +4,8 @@ use native.Mathlib.Omega.{arith}
 use borrow.Author.Rules.{rules}
 use Rattle.line.specs.Text.{decimal}
 use Rattle.line.proofs.Digits.{decimal-length}
-use Rattle.marker.specs.Mark.{breachText}
-use Rattle.marker.proofs.Written.{five-pieces}
+use Rattle.marker.specs.Mark.{breach_text}
+use Rattle.marker.proofs.Written.{five_pieces}
 use Rattle.marker.proofs.mark.in_breach.Statement.{statement}
 use Rattle.marker.proofs.mark.in_breach.Tie as tie
 
@@ -33,8 +33,8 @@ push-requires-2 c κs = search rules
 returns : tie.Need-returns
 returns c =
     let a = c.before.before.before.before.before.before.before.args in
-    five-pieces
-    breachText
+    five_pieces
+    breach_text
     (decimal a.clock)
     (32 ∷ [])
     (decimal a.number)

@@ -4,7 +4,7 @@ use mathlib.Core.Path.{◌∙◌, ap}
 use native.Mathlib.Omega.{arith}
 use borrow.Author.Tests.{le-leb, lt-leb}
 use lib.ListN.{length}
-use Rattle.marker.specs.Mark.{lineBy}
+use Rattle.marker.specs.Mark.{line_by}
 use borrow.Author.Rules.{rules}
 use Rattle.marker.proofs.mark.line_of.Statement.{statement}
 use Rattle.marker.proofs.mark.line_of.Tie as tie
@@ -38,7 +38,7 @@ returns-2 c =
     let bytes = c.before.before.before.before.before.args.bytes.now in
     let short : length bytes ≤ 65536 = omega arith in
     let verdict = rw c.before.before.institute.ensures at c.before.check-bytes.ensures in
-    let line = c.line-by.ensures.0 ∙ ap (lineBy (length bytes / 4)) verdict in
+    let line = c.line-by.ensures.0 ∙ ap (line_by (length bytes / 4)) verdict in
     (rw (le-leb (length bytes) 65536 short) line, c.line-by.ensures.1)
 
 pub line-of-spec : {M : Type 1} → statement M

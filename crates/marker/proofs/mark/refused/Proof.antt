@@ -4,8 +4,8 @@ use native.Mathlib.Omega.{arith}
 use borrow.Author.Rules.{rules}
 use Rattle.line.specs.Text.{decimal}
 use Rattle.line.proofs.Digits.{decimal-length}
-use Rattle.marker.specs.Mark.{refusedText}
-use Rattle.marker.proofs.Written.{three-pieces}
+use Rattle.marker.specs.Mark.{refused_text}
+use Rattle.marker.proofs.Written.{three_pieces}
 use Rattle.marker.proofs.mark.refused.Statement.{statement}
 use Rattle.marker.proofs.mark.refused.Tie as tie
 
@@ -31,7 +31,7 @@ returns c =
     let word = c.before.before.piece.ensures in
     let number = c.before.number.ensures in
     let feed = c.push.ensures in
-    three-pieces refusedText (decimal n) (10 ∷ []) (omega (arith, decimal-length n)) empty word number feed
+    three_pieces refused_text (decimal n) (10 ∷ []) (omega (arith, decimal-length n)) empty word number feed
 
 pub refused-spec : {M : Type 1} → statement M
 refused-spec =

@@ -6,14 +6,14 @@ use native.Mathlib.Omega.{arith}
 use lib.ListN.{length, get_or, set, take}
 use borrow.Author.Rules.{rules}
 use Rattle.queue.specs.Queue.{vacant}
-use Rattle.queue.specs.Totals.{totalsOf}
+use Rattle.queue.specs.Totals.{totals_of}
 use Rattle.queue.proofs.Closing.{taken-within}
 use Rattle.queue.proofs.Counting.{counts-one, counts-none, few-taken}
 use Rattle.queue.proofs.totals.totals_of.Statement.{statement}
 use Rattle.queue.proofs.totals.totals_of.Tie as tie
 
 abbrev invariant-loop : tie.invariant-loop
-invariant-loop count waiting end totals₀ i₀ totals i = (i ≤ end) × (totals ≡ totalsOf (take i waiting))
+invariant-loop count waiting end totals₀ i₀ totals i = (i ≤ end) × (totals ≡ totals_of (take i waiting))
 
 abbrev decreases-loop : tie.decreases-loop
 decreases-loop count waiting end totals₀ i₀ totals i = end - i
@@ -76,7 +76,7 @@ returns c =
     let l = c.before.loop in
     let a = c.before.before.before.args in
     let passed : l.i ≡ min a.count (length a.t1) = omega arith in
-    l.invariant.1 ∙ ap (λ n. totalsOf (take n a.t1)) passed ∙ ap totalsOf (taken-within a.count a.t1)
+    l.invariant.1 ∙ ap (λ n. totals_of (take n a.t1)) passed ∙ ap totals_of (taken-within a.count a.t1)
 
 pub totals-of-spec : {M : Type 1} → statement M
 totals-of-spec =

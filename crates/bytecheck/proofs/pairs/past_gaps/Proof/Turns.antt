@@ -27,8 +27,8 @@ Inv-loop2 timing bytes end limits spacings stamps₀ accesses₀ last₀ row₀ 
     (record { clock = clock₀; last = last₀; row = row₀; accesses = accesses₀; stamps = stamps₀ })
     (record { clock = clock; last = last; row = row; accesses = accesses; stamps = stamps })
 
-abbrev pub μ-loop2 : tie.decreases-loop2
-μ-loop2 timing bytes end limits spacings stamps₀ accesses₀ last₀ row₀ clock₀ stop marks₀ stamps accesses last row clock m = stop + 2 - clock
+abbrev pub μ_loop2 : tie.decreases-loop2
+μ_loop2 timing bytes end limits spacings stamps₀ accesses₀ last₀ row₀ clock₀ stop marks₀ stamps accesses last row clock m = stop + 2 - clock
 
 abbrev pub Inv-loop : tie.invariant-loop
 Inv-loop timing bytes end limits spacings stamps₀ accesses₀ last₀ row₀ clock₀ stamps accesses last row clock =
@@ -36,8 +36,8 @@ Inv-loop timing bytes end limits spacings stamps₀ accesses₀ last₀ row₀ c
     (record { clock = clock₀; last = last₀; row = row₀; accesses = accesses₀; stamps = stamps₀ })
     (record { clock = clock; last = last; row = row; accesses = accesses; stamps = stamps })
 
-abbrev pub μ-loop : tie.decreases-loop
-μ-loop timing bytes end limits spacings stamps₀ accesses₀ last₀ row₀ clock₀ stamps accesses last row clock = end - clock
+abbrev pub μ_loop : tie.decreases-loop
+μ_loop timing bytes end limits spacings stamps₀ accesses₀ last₀ row₀ clock₀ stamps accesses last row clock = end - clock
 
 -- the lowest of them, and those behind a pair
 first_of : (ws : List ℕ) (from n m : ℕ) → m ≡ marks 18 3 ws from n → n ≤ 64 → 0 < m → First 18 3 ws from n (count_trailing_zeros 64 m)
@@ -53,8 +53,8 @@ after-of ws clock stop lead m is =
     shr-shr m 2 lead ∙ (rw (at, left) at after)
 
 -- where a turn for a read or write starts
-module _ (l : tie.At-loop2 Inv-loop2 μ-loop2 Inv-loop μ-loop) where
-  abbrev pub turn : tie.At-loop Inv-loop2 μ-loop2 Inv-loop μ-loop
+module _ (l : tie.At-loop2 Inv-loop2 μ_loop2 Inv-loop μ_loop) where
+  abbrev pub turn : tie.At-loop Inv-loop2 μ_loop2 Inv-loop μ_loop
   turn = l.before.before.before.before
 
   abbrev pub bytes : List ℕ
@@ -93,8 +93,8 @@ module _ (l : tie.At-loop2 Inv-loop2 μ-loop2 Inv-loop μ-loop) where
   inside = rw (words-length bytes) listed
 
 -- and the lowest mark says where it is
-module _ (c : tie.In-loop2 Inv-loop2 μ-loop2 Inv-loop μ-loop) where
-  abbrev pub from : tie.At-loop2 Inv-loop2 μ-loop2 Inv-loop μ-loop
+module _ (c : tie.In-loop2 Inv-loop2 μ_loop2 Inv-loop μ_loop) where
+  abbrev pub from : tie.At-loop2 Inv-loop2 μ_loop2 Inv-loop μ_loop
   from = c.before
 
   abbrev pub lead : ℕ

@@ -6,12 +6,12 @@ use lib.Dec.{eqb, ltb}
 use native.Mathlib.Omega.{arith}
 use borrow.Author.Tests.{not-true, not-false, eq-eqb, ne_eqb, lt-ltb, le-ltb}
 use borrow.Author.Rules.{rules}
-use Rattle.consistency.specs.Consistency.{clockFits}
+use Rattle.consistency.specs.Consistency.{clock_fits}
 use Rattle.checker.proofs.checker.Checker.step_by.Statement.{statement}
 use Rattle.checker.proofs.checker.Checker.step_by.Tie as tie
 
 -- what each test tells, once those before it have passed
-fits : (c : tie.Else1) → let s = c.before.before.before.args.self in clockFits s.clock s.met s.stamps ≡ true
+fits : (c : tie.Else1) → let s = c.before.before.before.args.self in clock_fits s.clock s.met s.stamps ≡ true
 fits c = sym c.before.clock-fits.ensures ∙ not-false c.before.clock-fits.result c.if1.false
 
 sound : (c : tie.Else2) → eqb c.before.before.before.before.before.args.self.breach.number 0 ≡ true
