@@ -5,7 +5,7 @@ use command::Request;
 use controller::{CallAnswer, Controller};
 
 // A refused tick gives word 0.
-#[derive(Drop)]
+#[derive(Clone, Copy)]
 pub struct Given {
     pub answer: CallAnswer,
     pub word: u32,

@@ -1,5 +1,6 @@
 // Calls on long slices and large counts, for the tests alone: what the program `replay` cannot take, since its script is short and its
 // numbers have 32 bits.
+#![tactic(auto)]
 mod counting;
 mod number;
 mod shown;

@@ -18,7 +18,7 @@ pub(crate) const BELOW_CS: u32 = 18;
 const GAPLESS: u64 = 0x155555555555555;
 
 // A clock where nothing is met, and what is kept of the words before it.
-#[derive(Drop)]
+#[derive(Clone, Copy)]
 pub(crate) struct Track {
     pub(crate) clock: u64,
     // Where the last read or write closed, and twice whether it read. Before the first of them a clock from which on either is allowed,

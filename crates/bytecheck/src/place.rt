@@ -4,7 +4,7 @@ ghost use Rattle.bytecheck.specs.Passed.{start, next};
 
 use stamps::{DESL, Timestamps, next_met};
 
-#[derive(Drop)]
+#[derive(Clone, Copy)]
 pub(crate) struct Place {
     // The clock of the next word.
     pub(crate) clock: u32,

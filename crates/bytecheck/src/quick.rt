@@ -85,7 +85,7 @@ fn settled_from(timing: Timing, stamps: Timestamps) -> u64
 }
 
 // What reads and writes are tested by, the same for all of a trace.
-#[derive(Drop)]
+#[derive(Clone, Copy)]
 pub(crate) struct Limits {
     // Bits of a read or write of which one is set where the lower lane is not reserved, and where the upper one is not.
     pub(crate) lower: u64,

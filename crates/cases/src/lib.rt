@@ -1,1 +1,2 @@
 // The paper's cases, computed from the definitions in one declaration; there is no code.
+#![tactic(auto)]

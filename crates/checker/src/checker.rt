@@ -10,21 +10,21 @@ use consistency::clock_fits;
 use stamps::{DESL, Timestamps, next_met};
 
 // The clock and the number of a breach; number 0 where there is none.
-#[derive(Drop)]
+#[derive(Clone, Copy)]
 pub struct Breach {
     pub clock: u32,
     pub number: u32,
 }
 
 // What a word or a trace comes to: accepted, in breach, or refused.
-#[derive(Drop)]
+#[derive(Clone, Copy)]
 pub enum Verdict {
     Accepted,
     InBreach(Breach),
     Refused(Refusal),
 }
 
-#[derive(Drop)]
+#[derive(Clone, Copy)]
 pub struct Checker {
     pub config: Config,
     // The clock of the next word.
@@ -36,7 +36,7 @@ pub struct Checker {
     pub breach: Breach,
 }
 
-#[derive(Drop)]
+#[derive(Clone, Copy)]
 pub struct Stepped {
     pub verdict: Verdict,
     pub checker: Checker,

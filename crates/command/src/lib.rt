@@ -1,4 +1,5 @@
 // Commands as pairs of words: what a pair stands for, and the pins of its words.
+#![tactic(auto)]
 pub mod address;
 mod operation;
 pub mod pins;

@@ -2,7 +2,7 @@
 
 // A read or a write of one burst. `lower` and `upper` are the words that each lane writes: 0 where nothing is written, by a read, or by 8
 // in the upper.
-#[derive(Drop)]
+#[derive(Clone, Copy)]
 pub struct Request {
     pub write: bool,
     pub bank: u32,
@@ -13,7 +13,7 @@ pub struct Request {
 }
 
 // What a pair is read to and written from.
-#[derive(Drop)]
+#[derive(Clone, Copy)]
 pub enum Operation {
     Access(Request),
     // A regular mode register set, with the level of A3.
@@ -24,7 +24,7 @@ pub enum Operation {
 }
 
 // The words of two clocks, one after the other.
-#[derive(Drop)]
+#[derive(Clone, Copy)]
 pub struct Pair {
     pub first: u32,
     pub second: u32,

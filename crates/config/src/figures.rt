@@ -5,7 +5,7 @@ ghost use Rattle.config.specs.Configuration.{figures_of};
 use crate::Timing;
 
 // The figures that a timing holds, under the same names.
-#[derive(Drop)]
+#[derive(Clone, Copy)]
 pub struct Figures {
     pub cl: u32,
     pub bl: u32,

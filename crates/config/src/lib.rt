@@ -1,4 +1,5 @@
 // The configuration of a memory part (the paper's sheet), and the timing that an accepted one yields.
+#![tactic(auto)]
 mod figures;
 mod stored;
 mod wired;
@@ -11,19 +12,19 @@ ghost use Rattle.config.specs.Answers.{timingOutcome};
 use basics::{Refusal, choose};
 
 // A time in whole picoseconds: a type of its own, so that it is never taken for a count of clocks.
-#[derive(Drop)]
+#[derive(Clone, Copy)]
 pub struct Picoseconds(pub u32);
 
 // A time in whole nanoseconds.
-#[derive(Drop)]
+#[derive(Clone, Copy)]
 pub struct Nanoseconds(pub u32);
 
 // A count of clocks.
-#[derive(Drop)]
+#[derive(Clone, Copy)]
 pub struct Clocks(pub u32);
 
 // A configuration as it is given (the paper's sheet): any numbers at all.
-#[derive(Drop)]
+#[derive(Clone, Copy)]
 pub struct Config {
     pub grade: u32,
     pub cl: u32,
@@ -40,7 +41,7 @@ pub struct Config {
 }
 
 // What an accepted configuration yields; nothing but `Config::timing` makes one. Every spacing is in clocks.
-#[derive(Drop)]
+#[derive(Clone, Copy)]
 pub struct Timing {
     cl: u32,
     bl: u32,
@@ -63,7 +64,7 @@ pub struct Timing {
 }
 
 // The timing, or the refusal of the configuration.
-#[derive(Drop)]
+#[derive(Clone, Copy)]
 pub enum TimingAnswer {
     Accepted(Timing),
     Refused(Refusal),

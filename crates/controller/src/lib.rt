@@ -1,4 +1,5 @@
 // The controller: it keeps requests waiting and gives the words of its ticks.
+#![tactic(auto)]
 mod next;
 mod offering;
 mod state;
@@ -19,7 +20,7 @@ use stamps::Timestamps;
 use ticking::not_ticked;
 pub use ticking::tick_choosing;
 
-#[derive(Drop)]
+#[derive(Clone, Copy)]
 pub struct Controller {
     pub config: Config,
     // The clock of the word that the next tick gives.
@@ -32,20 +33,20 @@ pub struct Controller {
 }
 
 // What a call comes to.
-#[derive(Drop)]
+#[derive(Clone, Copy)]
 pub enum CallAnswer {
     Accepted,
     Refused(Refusal),
 }
 
-#[derive(Drop)]
+#[derive(Clone, Copy)]
 pub struct Offered {
     pub answer: CallAnswer,
     pub controller: Controller,
 }
 
 // A refused tick gives word 0.
-#[derive(Drop)]
+#[derive(Clone, Copy)]
 pub struct Ticked {
     pub answer: CallAnswer,
     pub word: u32,

@@ -1,4 +1,5 @@
 // How often each command stands in a trace, and how long its data last (the paper's tally). It judges nothing.
+#![tactic(auto)]
 ghost use Rattle.std.specs.Prelude.{◌≡◌, ◌≤◌, length};
 ghost use Rattle.rules.specs.Turns.{turns_of};
 ghost use Rattle.counts.specs.Counts.{no_counts, counting_outcome, counting_of};
@@ -12,7 +13,7 @@ use reading::burst;
 use turns::{TurnAnswer, opens_pair, turn};
 
 // How many reads, writes, modes and refreshes were closed, and how many words were DESL or, outside of pairs, had PD low.
-#[derive(Drop)]
+#[derive(Clone, Copy)]
 pub struct CommandCounts {
     pub reads: u32,
     pub writes: u32,
@@ -24,7 +25,7 @@ pub struct CommandCounts {
 }
 
 // The counts; of a refused call all are 0.
-#[derive(Drop)]
+#[derive(Clone, Copy)]
 pub enum CountsAnswer {
     Counted(CommandCounts),
     Refused(Refusal, CommandCounts),

@@ -1,4 +1,5 @@
 // How long a trace lasts in nanoseconds, from its word count and the sheet's period.
+#![tactic(auto)]
 ghost use Rattle.std.specs.Prelude.{◌≡◌, ◌*◌, ◌≤◌};
 ghost use Rattle.duration.specs.Duration.{in_nanoseconds, duration_of};
 ghost use Rattle.duration.specs.Answers.{durationOutcome};
@@ -7,14 +8,14 @@ use basics::{LIMIT, Refusal};
 use config::{Config, Nanoseconds, Picoseconds, TimingAnswer};
 
 // A length in time: whole nanoseconds, and the picoseconds left over; of an answer, fewer than 1,000.
-#[derive(Drop)]
+#[derive(Clone, Copy)]
 pub struct Duration {
     pub whole: Nanoseconds,
     pub rest: Picoseconds,
 }
 
 // How long the trace lasts, or the refusal.
-#[derive(Drop)]
+#[derive(Clone, Copy)]
 pub enum DurationAnswer {
     Lasts(Duration),
     Refused(Refusal),

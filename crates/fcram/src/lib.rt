@@ -1,4 +1,5 @@
 // The exam site's calls, for programs in C: include/fcram.h declares them.
+#![tactic(auto)]
 pub mod wired;
 
 ghost use Rattle.std.specs.Prelude.{◌≡◌};

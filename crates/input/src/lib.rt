@@ -1,4 +1,5 @@
 // Standard input, read to its end.
+#![tactic(auto)]
 ghost use Rattle.std.specs.Prelude.{◌≡◌};
 ghost use Rattle.input.specs.Reading.{negative, ReadPromised};
 

@@ -1,4 +1,5 @@
 // Sheets known within limits: a trace on every sheet from a least one to a greatest.
+#![tactic(auto)]
 ghost use Rattle.std.specs.Prelude.{◌≡◌};
 ghost use Rattle.basics.specs.Outcome.{value, given};
 ghost use Rattle.config.specs.Configuration.{derived, timing_of};
@@ -12,7 +13,7 @@ use config::{Config, TimingAnswer};
 use wordcheck::check;
 
 // Accepted on every sheet in the limits; or a sheet there on which the trace is in breach, with that breach; or the refusal.
-#[derive(Drop)]
+#[derive(Clone, Copy)]
 pub enum LimitsAnswer {
     Always,
     InBreach(Config, Breach),

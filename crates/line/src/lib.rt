@@ -1,10 +1,11 @@
 // A line of text that grows at its end. What no longer fits is left out.
+#![tactic(auto)]
 ghost use Rattle.std.specs.Prelude.{◌≡◌, cond, [], ◌∷◌, ◌+◌, ◌<◌};
 ghost use Rattle.line.specs.Lines.{empty_line, pushed, appended};
 ghost use Rattle.line.specs.Text.{decimal};
 
 // Room for 40 bytes; the text is the first `len` of them.
-#[derive(Drop)]
+#[derive(Clone, Copy)]
 pub struct Line {
     pub bytes: [u8; 40],
     pub len: usize,

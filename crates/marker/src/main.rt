@@ -1,4 +1,5 @@
 // Marks the trace on standard input by the institute's own configuration, and writes one line.
+#![tactic(auto)]
 mod mark;
 
 ghost use Rattle.std.specs.Prelude.{◌≤◌};

@@ -1,5 +1,6 @@
 // A pair of words is read to the operation that it stands for, and to the clocks of its data. Where a test picks the case, the leaf takes
 // the test's result.
+#![tactic(auto)]
 ghost use Rattle.std.specs.Prelude.{◌≡◌, cond};
 ghost use Rattle.command.specs.Pins.{pins};
 ghost use Rattle.reading.specs.Reading.{lane_by, access_of, mode_by, operation_of, register_fits};
@@ -14,7 +15,7 @@ use command::{Operation, Pair, Request};
 use config::{Clocks, Config, Timing, TimingAnswer};
 
 // What reading a pair gives: its operation, and when the data of a read or write lie on the data pins.
-#[derive(Drop)]
+#[derive(Clone, Copy)]
 pub struct Decoded {
     pub operation: Operation,
     // From LAL to the first data.
@@ -24,7 +25,7 @@ pub struct Decoded {
 }
 
 // What reading gives, or the refusal.
-#[derive(Drop)]
+#[derive(Clone, Copy)]
 pub enum ReadAnswer {
     Read(Decoded),
     Refused(Refusal),

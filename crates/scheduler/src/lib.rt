@@ -1,4 +1,5 @@
 // The pairs that a controller opens: which comes next, and the words of each.
+#![tactic(auto)]
 ghost use Rattle.std.specs.Prelude.{◌≡◌, ◌+◌, leb};
 ghost use Rattle.scheduler.specs.Pairs.{pair_words, is_open, of_waiting, place_of, chosen_at, next_pair};
 
@@ -7,7 +8,7 @@ use config::Timing;
 use stamps::{DESL, Timestamps};
 
 // What the open pair stands for; its closing word is the next.
-#[derive(Drop)]
+#[derive(Clone, Copy)]
 pub enum OpenPair {
     Nothing,
     Extended,

@@ -1,4 +1,5 @@
 // What is kept of the past: the clock of each event's closing word, 0 for never.
+#![tactic(auto)]
 ghost use Rattle.std.specs.Prelude.{◌≡◌, ◌<◌};
 ghost use Rattle.stamps.specs.Stamps.{with_access, with_mode, with_refresh, remembered, next_stamps, never};
 ghost use Rattle.stamps.specs.Stamps.{is_powered_down, is_exiting, next_met};
@@ -7,7 +8,7 @@ use basics::choose;
 use command::address::bank;
 use command::pins::{BA0, CS, FN, PD, high};
 
-#[derive(Drop)]
+#[derive(Clone, Copy)]
 pub struct Timestamps {
     // The first extended MRS word.
     pub extended: u32,

@@ -1,4 +1,5 @@
 // A trace turn by turn, for whoever goes through its words pair by pair: both words of a closed pair, or else a single word.
+#![tactic(auto)]
 ghost use Rattle.std.specs.Prelude.{◌≡◌};
 ghost use Rattle.rules.specs.Turns.{opens_pair};
 ghost use Rattle.turns.specs.OneTurn.{turn_outcome, turn_at};
@@ -7,7 +8,7 @@ use command::Pair;
 use command::pins::{CS, PD, high};
 
 // What a turn takes, and the index behind it.
-#[derive(Drop)]
+#[derive(Clone, Copy)]
 pub enum TurnAnswer {
     // Both words of a pair.
     Closed(Pair, usize),

@@ -1,4 +1,5 @@
 // One advance of a walk over lent words (RULES 5.5), for whoever holds the words and the checker that it has reached.
+#![tactic(auto)]
 ghost use Rattle.std.specs.Prelude.{◌≡◌};
 ghost use Rattle.checker.specs.Steps.{verdict_outcome};
 ghost use Rattle.walks.specs.Walk.{progress_outcome, of_word, at_end, MovePromised};
@@ -9,7 +10,7 @@ use config::TimingAnswer;
 use consistency::clock_fits;
 
 // What an advance comes to.
-#[derive(Drop)]
+#[derive(Clone, Copy)]
 pub enum Progress {
     Passed,
     InBreach(Breach),
@@ -17,7 +18,7 @@ pub enum Progress {
     End,
 }
 
-#[derive(Drop)]
+#[derive(Clone, Copy)]
 pub struct Moved {
     pub progress: Progress,
     pub checker: Checker,

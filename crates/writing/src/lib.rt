@@ -1,4 +1,5 @@
 // An operation is written to its pair of words. Every pin that carries nothing is low (RULES 2.7).
+#![tactic(auto)]
 ghost use Rattle.std.specs.Prelude.{◌≡◌, cond, not, ◌&&◌, ◌+◌, ◌*◌, ◌≤◌, eqb};
 ghost use Rattle.command.specs.Pins.{level};
 ghost use Rattle.writing.specs.Writing.{request_fits, operation_fits, access_pair, pair_of, write_pair};
@@ -11,7 +12,7 @@ use command::{Operation, Pair, Request};
 use config::{Config, Timing, TimingAnswer};
 
 // The pair, or the refusal.
-#[derive(Drop)]
+#[derive(Clone, Copy)]
 pub enum WriteAnswer {
     Written(Pair),
     Refused(Refusal),
