@@ -1,5 +1,5 @@
 // Calls on long slices and large counts, for the tests alone: what the program `replay` cannot take, since its script is short and its
-// numbers have 32 bits.
+// numbers have 32 bits. The crate bulk_c exports them to programs in Rust.
 #![tactic(auto)]
 mod counting;
 mod number;
@@ -37,16 +37,14 @@ fn config_of(sheet: &[u32; 11]) -> Config
 }
 
 // The whole check.
-#[unsafe(no_mangle)]
-pub extern "C" fn bulk_check(sheet: &[u32; 11], words: &[u32]) -> u64
+pub fn bulk_check(sheet: &[u32; 11], words: &[u32]) -> u64
     ensures { result ≡ check_number (check_of (sheet_of sheet.now) words.now) }
 {
     of_verdict(wordcheck::check(config_of(sheet), words))
 }
 
 // The check in the limits of two sheets; the sheet that is shown is put into the places.
-#[unsafe(no_mangle)]
-pub extern "C" fn bulk_limits(
+pub fn bulk_limits(
     least: &[u32; 11],
     greatest: &[u32; 11],
     words: &[u32],
@@ -62,8 +60,7 @@ pub extern "C" fn bulk_limits(
 }
 
 // A fresh walk, advanced until it does not pass: the answer that it stops with.
-#[unsafe(no_mangle)]
-pub extern "C" fn bulk_walk(sheet: &[u32; 11], words: &[u32]) -> u64
+pub fn bulk_walk(sheet: &[u32; 11], words: &[u32]) -> u64
     ensures { result ≡ walk_number (walk_of (sheet_of sheet.now) words.now).outcome }
 {
     let stopped = walk(config_of(sheet), words);
@@ -72,8 +69,7 @@ pub extern "C" fn bulk_walk(sheet: &[u32; 11], words: &[u32]) -> u64
 }
 
 // A whole walk over the words, and then the answer of one advance more.
-#[unsafe(no_mangle)]
-pub extern "C" fn bulk_walk_again(sheet: &[u32; 11], words: &[u32]) -> u64
+pub fn bulk_walk_again(sheet: &[u32; 11], words: &[u32]) -> u64
     ensures { result ≡ walk_number (again_of (sheet_of sheet.now) words.now) }
 {
     let stopped = walk(config_of(sheet), words);
@@ -84,8 +80,7 @@ pub extern "C" fn bulk_walk_again(sheet: &[u32; 11], words: &[u32]) -> u64
 }
 
 // Counts the commands and puts the six counts into the first six places, if there are six; 0 or the refusal's number.
-#[unsafe(no_mangle)]
-pub extern "C" fn bulk_count(sheet: &[u32; 11], words: &[u32], places: &mut [u32]) -> u32
+pub fn bulk_count(sheet: &[u32; 11], words: &[u32], places: &mut [u32]) -> u32
     ensures answer { result ≡ (counted_of sheet.now words.now).number }
     ensures buffer { places.new ≡
         stored (counted_of sheet.now words.now).counts places.old }
@@ -96,8 +91,7 @@ pub extern "C" fn bulk_count(sheet: &[u32; 11], words: &[u32], places: &mut [u32
 }
 
 // How long so many words last, put into the places: whole nanoseconds and the rest; 0 or the refusal's number.
-#[unsafe(no_mangle)]
-pub extern "C" fn bulk_duration(sheet: &[u32; 11], count: usize, places: &mut [u32; 2]) -> u32
+pub fn bulk_duration(sheet: &[u32; 11], count: usize, places: &mut [u32; 2]) -> u32
     ensures answer { result ≡ timed_number (timed_of sheet.now count) }
     ensures buffer { places.new ≡ timed_in (timed_of sheet.now count) places.old }
 {

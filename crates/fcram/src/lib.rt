@@ -1,4 +1,4 @@
-// The exam site's calls, for programs in C: include/fcram.h declares them.
+// The exam site's calls. The crate fcram_c exports them to programs in C.
 #![tactic(auto)]
 pub mod wired;
 
@@ -32,8 +32,7 @@ pub(crate) fn checked(config: Config, trace: &[u8]) -> u32
 }
 
 // Checks a trace on the configuration that the ten numbers make, which has eight banks.
-#[unsafe(no_mangle)]
-pub extern "C" fn fcram_check(
+pub fn fcram_check(
     grade: u32,
     cl: u32,
     bl: u32,

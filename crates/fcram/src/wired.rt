@@ -8,8 +8,7 @@ use crate::checked;
 use config::Config;
 
 // Checks a trace on the configuration that the eleven numbers make.
-#[unsafe(no_mangle)]
-pub extern "C" fn fcram_check_wired(
+pub fn fcram_check_wired(
     grade: u32,
     cl: u32,
     bl: u32,
