@@ -8,12 +8,12 @@ use borrow.Author.Tests.{lt-ltb}
 use lib.ListN.{length, set, length-set}
 use lib.Seq.{append_snoc, take-suc-set}
 use Rattle.line.specs.declared.Line.{Line}
-use Rattle.line.specs.Lines.{appended}
+use Rattle.line.specs.Lines.{pushed, appended}
 use Rattle.line.specs.Text.{text}
 
 pub joined : (l : Line) (a b : List ℕ) → appended (appended l a) b ≡ appended l (a ++ b)
 joined l [] b = refl
-joined l (x ∷ a) b = joined _ a b
+joined l (x ∷ a) b = joined (pushed l x) a b
 
 -- given the length of the array
 pub grown : (l : Line) (bs : List ℕ) → length l.bytes ≡ 40 → l.len + length bs ≤ 40

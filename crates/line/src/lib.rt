@@ -1,5 +1,6 @@
 // A line of text that grows at its end. What no longer fits is left out.
 #![tactic(auto)]
+
 ghost use Rattle.std.specs.Prelude.{◌≡◌, cond, [], ◌∷◌, ◌+◌, ◌<◌};
 ghost use Rattle.line.specs.Lines.{empty_line, pushed, appended};
 ghost use Rattle.line.specs.Text.{decimal};

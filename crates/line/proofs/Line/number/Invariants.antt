@@ -1,0 +1,8 @@
+-- The line, with the digits of the powers that are left, is the first one with the number.
+use Rattle.std.proofs.Common.{◌≡◌, drop}
+use Rattle.line.specs.Lines.{appended}
+use Rattle.line.specs.Text.{digits_by, powers, decimal}
+use Rattle.line.proofs.Line.number.Given as goal
+
+abbrev pub invariant-loop-i : goal.invariant-loop-i
+invariant-loop-i l = appended l.line (digits_by (drop l.i powers) l.n) ≡ appended l.initial.line (decimal l.n)
