@@ -1,0 +1,22 @@
+-- The tests that only a read or write can meet are false at an MRS or REF word.
+use Rattle.breaches.proofs.ByKind.{at_other}
+use Rattle.breaches.proofs.mode_or_refresh_breach.Goals as goal
+
+pub returns : goal.returns
+returns c =
+    let a = c.args in
+    let figures = c.figures-figures.ensures in
+    rw (
+      c.choose-3.ensures,
+      c.choose-from_9.ensures,
+      c.choose-2.ensures,
+      c.choose-from_11.ensures,
+      c.choose.ensures,
+      c.high-rda.ensures,
+    )
+    (at_other a.timing a.stamps a.clock a.first a.second c.requires
+    c.mode_wrong-wrong.ensures
+    (rw figures at c.near-after_mode.ensures)
+    (rw figures at c.near-after_refresh.ensures)
+    (rw c.high-rda.ensures at c.busy-busy.ensures)
+    (rw figures at c.near-in_window.ensures))
