@@ -5,7 +5,6 @@ use mathlib.Core.Bool.{Bool, true, false, cond, not}
 use mathlib.Core.List.{List, ◌∷◌}
 use mathlib.Core.Logic.{◌⊎◌, inl, inr, ⊎_elim}
 use native.Mathlib.Omega.{arith}
-use native.Mathlib.Nat.{le_refl}
 use lib.ListN.{get_or}
 use Rattle.config.specs.declared.Timing.{Timing}
 use Rattle.rules.specs.History.{ClosedPair, free, Past}
@@ -185,7 +184,7 @@ module _ (t : Timing) (f : Figures t) (ps : List ClosedPair) (k : ℕ) (n : Norm
                 second = rw e n.ready.refresh;
               };
           last = rw (e, at) (omega arith);
-          gaps = rw (e, at) (next-gap (k + 1) (le_refl (k + 1)));
+          gaps = rw e (next-gap (p.start + 1) (omega arith));
           mode = rw m n.mode;
           read = rw (e, r, at) (omega arith);
           write = rw (e, w, at) (omega arith);
