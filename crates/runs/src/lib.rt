@@ -3,6 +3,7 @@
 // fixed number of turns, and the functions that hold them are called from one place each: so the compiler unrolls them there and tests
 // neighbouring words at once.
 #![tactic(auto)]
+
 ghost use Rattle.std.specs.Prelude.{◌≡◌, true, ◌+◌, ◌/◌, ◌%◌, ◌≤◌, ◌<◌, min, length, get_or, drop};
 ghost use Rattle.words.specs.Words.{words_of};
 ghost use Rattle.runs.specs.Runs.{agrees, leading, run_end, marks, marks_from};
