@@ -1,11 +1,14 @@
--- What is known of the bytes read. Which bytes come, and when a read fails, no contract of the C library's calls says.
-use Rattle.std.specs.Prelude.{ℕ, ◌<◌, ◌≡◌, Bool, true, false, List, length, ℤ, pos, negsuc}
-use Rattle.io.specs.Counts.{IsPrefixLen}
+-- What is known of the bytes read. Which bytes come, and when a read fails, no contract of the system's calls says.
+use Rattle.std.specs.Prelude.{ℕ, ◌<◌, ◌≤◌, ◌≡◌, Bool, true, false, List, length, take, ℤ, pos, negsuc}
 
 -- a call that fails answers a negative number
 abbrev pub negative : ℤ → Bool
 negative (pos k) = false
 negative (negsuc k) = true
+
+-- `&xs[..n]` is in bounds and has n bytes
+abbrev pub IsPrefixLen : ℕ → List ℕ → Type 0
+IsPrefixLen n xs = (n ≤ length xs) × (n ≡ length (take n xs))
 
 -- of the count, the mark of a failure and the buffer afterwards
 pub record ReadPromised (count : ℕ) (failed : Bool) (bytes : List ℕ) : Type 0 where

@@ -1,10 +1,13 @@
 // Standard input, read to its end.
 #![tactic(auto)]
+
 ghost use Rattle.std.specs.Prelude.{◌≡◌};
 ghost use Rattle.input.specs.Reading.{negative, ReadPromised};
 
+use std::io::{Read, Stdin};
+
 // How many bytes were read, and whether a read failed: then they are not the whole input.
-#[derive(Drop)]
+#[derive(Clone, Copy)]
 pub struct Input {
     pub count: usize,
     pub failed: bool,
@@ -18,20 +21,23 @@ fn failed(got: isize) -> bool
 }
 
 // Reads until the buffer is full, the input ends or a read fails.
-pub fn read(buffer: &mut [u8]) -> Input
+pub fn read(mut stdin: Stdin, buffer: &mut [u8]) -> Input
     ensures { ReadPromised result.count result.failed buffer.new }
 {
     let mut count: usize = 0;
     while count < buffer.len() {
-        let got = libc::read(libc::STDIN_FILENO, &mut buffer[count..]);
-        let more = io::count(got, &buffer[count..]);
-        if more == 0 {
+        // How many bytes came; a negative number where the read failed.
+        let got = match stdin.read(&mut buffer[count..]) {
+            Ok(more) => more as isize,
+            Err(_) => -1,
+        };
+        if got <= 0 {
             return Input {
                 count,
                 failed: failed(got),
             };
         }
-        count += more;
+        count += got as usize;
     }
     Input {
         count,
