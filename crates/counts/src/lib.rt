@@ -1,5 +1,6 @@
 // How often each command stands in a trace, and how long its data last (the paper's tally). It judges nothing.
 #![tactic(auto)]
+
 ghost use Rattle.std.specs.Prelude.{◌≡◌, ◌≤◌, length};
 ghost use Rattle.rules.specs.Turns.{turns_of};
 ghost use Rattle.counts.specs.Counts.{no_counts, counting_outcome, counting_of};

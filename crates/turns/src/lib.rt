@@ -1,5 +1,6 @@
 // A trace turn by turn, for whoever goes through its words pair by pair: both words of a closed pair, or else a single word.
 #![tactic(auto)]
+
 ghost use Rattle.std.specs.Prelude.{◌≡◌};
 ghost use Rattle.rules.specs.Turns.{opens_pair};
 ghost use Rattle.turns.specs.OneTurn.{turn_outcome, turn_at};

@@ -1,0 +1,10 @@
+-- The invariant: no pair is open, and with the turns that are left the counts come to those of all.
+use Rattle.std.proofs.Common.{◌-◌, length}
+use Rattle.counts.proofs.Tallying.{Tallying}
+use Rattle.counts.proofs.counts_of.Given as goal
+
+abbrev pub invariant-loop-pair : goal.invariant-loop-pair
+invariant-loop-pair l = Tallying l.timing l.words l.at l.counts
+
+abbrev pub decreases-loop-pair : goal.decreases-loop-pair
+decreases-loop-pair l = length l.words - l.at
