@@ -1,5 +1,6 @@
 // The requests that wait, oldest first: as many as are counted of sixteen places. A count above sixteen counts them all.
 #![tactic(auto)]
+
 mod totals;
 
 ghost use Rattle.std.specs.Prelude.{◌≡◌, cond, ◌-◌, min, take};
