@@ -1,5 +1,6 @@
 // One advance of a walk over lent words (RULES 5.5), for whoever holds the words and the checker that it has reached.
 #![tactic(auto)]
+
 ghost use Rattle.std.specs.Prelude.{◌≡◌};
 ghost use Rattle.checker.specs.Steps.{verdict_outcome};
 ghost use Rattle.walks.specs.Walk.{progress_outcome, of_word, at_end, MovePromised};
