@@ -13,27 +13,27 @@ mod traces;
 use checker::Checker;
 use config::Config;
 use controller::Controller;
-use libc::STDERR_FILENO;
+use std::io::Stdout;
 
-fn main() {
+fn main(rt: HostRuntime) {
     let mut buffer = [0u8; 65537];
-    let input = input::read(&mut buffer);
+    let input = input::read(rt.stdin(), &mut buffer);
     if input.failed {
-        io::write_all(STDERR_FILENO, b"replay: the input cannot be read\n");
+        let _ = rt.stderr().write_all(b"replay: the input cannot be read\n");
         return;
     }
     let count = input.count;
-    run(&buffer[..count]);
+    run(rt.stdout(), &buffer[..count]);
 }
 
 // At most 65,536 bytes, in whole words, one call after the other. A call is of one kind, and the functions of the others leave it alone.
-fn run(bytes: &[u8]) {
+fn run(out: Stdout, bytes: &[u8]) {
     if 65536 < bytes.len() {
-        answers::script_refused();
+        answers::script_refused(out);
         return;
     }
     if bytes.len() % 4 != 0 {
-        answers::script_refused();
+        answers::script_refused(out);
         return;
     }
     let mut at = 0;
@@ -43,13 +43,13 @@ fn run(bytes: &[u8]) {
     while at < bytes.len() / 4 {
         let next = sizes::behind(bytes, at);
         if next <= at {
-            answers::script_refused();
+            answers::script_refused(out);
             return;
         }
-        config = calls::configure(bytes, at, config);
-        calls::on_config(bytes, at, config);
-        checker = traces::after(bytes, at, config, checker);
-        controller = ticks::after(bytes, at, config, controller);
+        config = calls::configure(out, bytes, at, config);
+        calls::on_config(out, bytes, at, config);
+        checker = traces::after(out, bytes, at, config, checker);
+        controller = ticks::after(out, bytes, at, config, controller);
         at = next;
     }
 }
