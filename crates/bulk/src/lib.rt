@@ -1,6 +1,7 @@
 // Calls on long slices and large counts, for the tests alone: what the program `replay` cannot take, since its script is short and its
 // numbers have 32 bits. The crate bulk_c exports them to programs in Rust.
 #![tactic(auto)]
+
 mod counting;
 mod number;
 mod shown;

@@ -1,5 +1,6 @@
 // The exam site's calls. The crate fcram_c exports them to programs in C.
 #![tactic(auto)]
+
 pub mod wired;
 
 ghost use Rattle.std.specs.Prelude.{◌≡◌};
