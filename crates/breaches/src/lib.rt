@@ -1,5 +1,6 @@
 // The rules as tests of what is kept of the past: rules 4 to 12 at a closing word, and all of them at any word.
 #![tactic(auto)]
+
 mod power_down;
 
 ghost use Rattle.std.specs.Prelude.{◌≡◌, true, false, ◌+◌};

@@ -61,7 +61,8 @@ module _ (c : Config) (t : Timing) (e : timing_of c ≡ value t) where
       go zero z ih = rw (step-passes (summary t.four ps) k (met_of o) w f (omega arith) z, z) ih
       go (suc n) z ih = rw (step_breaches (summary t.four ps) k (met_of o) w f (omega arith) n z, z)
 
-verdict : (c : Config) (t : Timing) (ws : List ℕ) → timing_of c ≡ value t → length ws ≤ 16777216 → stepping (fresh c) ws ≡ value (judge t ws)
+verdict : (c : Config) (t : Timing) (ws : List ℕ) → timing_of c ≡ value t → length ws ≤ 16777216
+    → stepping (fresh c) ws ≡ value (judge t ws)
 verdict c t ws e h = stepping-is c t e (between idle) 0 [] ws (omega arith, tt) (omega arith) ∙ ap value (sym (run_is t ws))
 
 -- a clock, first word and timestamps that are those of such a past

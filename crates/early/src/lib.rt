@@ -1,5 +1,6 @@
 // Rules 1 to 3, which every word is held to.
 #![tactic(auto)]
+
 ghost use Rattle.std.specs.Prelude.{◌≡◌, [], ◌∷◌};
 ghost use Rattle.rules.specs.Rules.{lowest};
 ghost use Rattle.rules.specs.Breaches.{deadline, early_breach};

@@ -82,7 +82,8 @@ module _ (four : Bool) (u first second : ℕ) (ps : List ClosedPair) where
   abbrev pair : ClosedPair
   pair = record { start = u; first = first; second = second }
 
-  banks : each_bank (λ b. latest (of_bank four b) (pair ∷ ps)) ≡ each_bank (λ b. cond (of_bank four b pair) (u + 1) (latest (of_bank four b) ps))
+  banks : each_bank (λ b. latest (of_bank four b) (pair ∷ ps))
+      ≡ each_bank (λ b. cond (of_bank four b pair) (u + 1) (latest (of_bank four b) ps))
   banks = ap each_bank (fun_ext (λ b. latest_cons (of_bank four b) pair ps))
 
   access : (r : Bool) → rda first ≡ r → lal second ≡ true

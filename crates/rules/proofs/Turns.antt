@@ -76,7 +76,8 @@ pairs-from : {k : ℕ} {ws : List ℕ} {xs : List Turn} → Turned k ws xs → (
 pairs-from ended r ps = refl
 pairs-from last r ps = refl
 pairs-from (paired {k = k} {w = w} {v = v} {ws = ws} e t) r ps =
-    pairs-from t idle (record { start = k; first = w; second = v } ∷ ps) ∙ ap (λ p. (past_from p ws).pairs) (sym (pair_extends k w v r ps e))
+    pairs-from t idle (record { start = k; first = w; second = v } ∷ ps)
+    ∙ ap (λ p. (past_from p ws).pairs) (sym (pair_extends k w v r ps e))
 pairs-from (alone {k = k} {w = w} {v = v} {ws = ws} e t) r ps =
     pairs-from t (rest_after r w) ps ∙ ap (λ p. (past_from p (v ∷ ws)).pairs) (sym (single_extends k w r ps e))
 

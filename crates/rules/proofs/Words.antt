@@ -94,7 +94,8 @@ module _ (t : Timing) (k : ℕ) (ps : List ClosedPair) (w : ℕ) (o : Ordered k 
   low-between powered_down = refl
   low-between exiting = refl
 
-  pub exit_between : (r : Rest) → rule13 t (record { clock = k; phase = between r; pairs = ps }) w ≡ selected_at_exit (met_of (between r)) w
+  pub exit_between : (r : Rest)
+      → rule13 t (record { clock = k; phase = between r; pairs = ps }) w ≡ selected_at_exit (met_of (between r)) w
   exit_between idle = refl
   exit_between powered_down = refl
   exit_between exiting = refl
@@ -147,7 +148,8 @@ met-is (between q) k ps w r = rw (none-opened q) (by (high 19 w) (selected w))
     next : ℕ
     next = cond (is_powered_down (met_of (between q))) 0xE0000 0xC0000
 
-    by : (pd b : Bool) → met_of (cond pd (cond b (pair w) (between (after_desl q))) (between powered_down)) ≡ cond pd (cond b w next) 0x40000
+    by : (pd b : Bool)
+        → met_of (cond pd (cond b (pair w) (between (after_desl q))) (between powered_down)) ≡ cond pd (cond b w next) 0x40000
     by true true = refl
     by true false = after-desl-is q
     by false b = refl

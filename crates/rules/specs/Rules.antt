@@ -1,6 +1,7 @@
 -- The rules (RULES 4) over the whole history of closed pairs. Each word, at its clock k, is held to rules 1 to 3 and 13; a closing word,
 -- whose pair began at u = k − 1, also to rules 4 to 12. An earlier pair began at t, so its LAL, MRS or REF stands at t + 1.
-use Rattle.std.specs.Prelude.{ℕ, suc, ◌+◌, ◌-◌, ◌*◌, ◌/◌, min, Bool, true, false, cond, not, ◌&&◌, ◌||◌, List, [], ◌∷◌, map, length, get_or, eqb, leb, ltb}
+use Rattle.std.specs.Prelude.{ℕ, suc, ◌+◌, ◌-◌, ◌*◌, ◌/◌, min, Bool, true, false, cond, not, ◌&&◌, ◌||◌}
+use Rattle.std.specs.Prelude.{List, [], ◌∷◌, map, length, get_or, eqb, leb, ltb}
 use Rattle.config.specs.declared.Timing.{Timing}
 use Rattle.command.specs.Pins.{high, stray_bit}
 use Rattle.command.specs.Pairs.{selected, lal, is_read, is_write, is_mode, is_refresh}

@@ -1,5 +1,6 @@
 // The whole check of a trace: one pass, and nothing tested inside it that the door has tested.
 #![tactic(auto)]
+
 ghost use Rattle.std.specs.Prelude.{◌≡◌, ◌≤◌, length};
 ghost use Rattle.basics.specs.Outcome.{value};
 ghost use Rattle.rules.specs.Verdict.{judge, check_of};
