@@ -1,5 +1,6 @@
 // A walk over lent words (RULES 5.5): an advance judges the next one.
 #![tactic(auto)]
+
 ghost use Rattle.cursor.specs.Cursor.{AdvancePromised, NewPromised};
 
 use checker::Checker;

@@ -1,2 +1,0 @@
--- What the proofs by hand have in common, over Behind of `borrowed`.
-pub mod Cursors
