@@ -1,5 +1,6 @@
 // What most crates use: the refusals of the whole product, the clock limit, and a choice between two numbers.
 #![tactic(auto)]
+
 mod refusal;
 
 ghost use Rattle.std.specs.Prelude.{◌≡◌, cond};

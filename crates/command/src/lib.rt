@@ -1,5 +1,6 @@
 // Commands as pairs of words: what a pair stands for, and the pins of its words.
 #![tactic(auto)]
+
 pub mod address;
 mod operation;
 pub mod pins;

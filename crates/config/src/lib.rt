@@ -1,5 +1,6 @@
 // The configuration of a memory part (the paper's sheet), and the timing that an accepted one yields.
 #![tactic(auto)]
+
 mod figures;
 mod stored;
 mod wired;

@@ -1,5 +1,6 @@
 // Whether a state's clock agrees with what the state remembers: one ground of refusal 19 (RULES 6.19).
 #![tactic(auto)]
+
 ghost use Rattle.std.specs.Prelude.{◌≡◌};
 ghost use Rattle.consistency.specs.Consistency.{eight_before, stamps_before, words_before, clock_fits};
 

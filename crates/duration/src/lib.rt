@@ -1,5 +1,6 @@
 // How long a trace lasts in nanoseconds, from its word count and the sheet's period.
 #![tactic(auto)]
+
 ghost use Rattle.std.specs.Prelude.{◌≡◌, ◌*◌, ◌≤◌};
 ghost use Rattle.duration.specs.Duration.{in_nanoseconds, duration_of};
 ghost use Rattle.duration.specs.Answers.{durationOutcome};

@@ -1,6 +1,7 @@
 // A pair of words is read to the operation that it stands for, and to the clocks of its data. Where a test picks the case, the leaf takes
 // the test's result.
 #![tactic(auto)]
+
 ghost use Rattle.std.specs.Prelude.{◌≡◌, cond};
 ghost use Rattle.command.specs.Pins.{pins};
 ghost use Rattle.reading.specs.Reading.{lane_by, access_of, mode_by, operation_of, register_fits};

@@ -1,5 +1,6 @@
 // The pairs that a controller opens: which comes next, and the words of each.
 #![tactic(auto)]
+
 ghost use Rattle.std.specs.Prelude.{◌≡◌, ◌+◌, leb};
 ghost use Rattle.scheduler.specs.Pairs.{pair_words, is_open, of_waiting, place_of, chosen_at, next_pair};
 

@@ -1,5 +1,6 @@
 // What is kept of the past: the clock of each event's closing word, 0 for never.
 #![tactic(auto)]
+
 ghost use Rattle.std.specs.Prelude.{◌≡◌, ◌<◌};
 ghost use Rattle.stamps.specs.Stamps.{with_access, with_mode, with_refresh, remembered, next_stamps, never};
 ghost use Rattle.stamps.specs.Stamps.{is_powered_down, is_exiting, next_met};

@@ -1,5 +1,6 @@
 // An operation is written to its pair of words. Every pin that carries nothing is low (RULES 2.7).
 #![tactic(auto)]
+
 ghost use Rattle.std.specs.Prelude.{◌≡◌, cond, not, ◌&&◌, ◌+◌, ◌*◌, ◌≤◌, eqb};
 ghost use Rattle.command.specs.Pins.{level};
 ghost use Rattle.writing.specs.Writing.{request_fits, operation_fits, access_pair, pair_of, write_pair};
