@@ -2,3 +2,4 @@
 pub mod Passing
 pub mod Lanes
 pub mod Access
+pub mod Turns

@@ -1,5 +1,6 @@
 // The whole check of a trace that is handed over as bytes.
 #![tactic(auto)]
+
 mod idle;
 mod pairs;
 mod place;

@@ -1,0 +1,5 @@
+use Rattle.bytecheck.specs.Passed.{none}
+use Rattle.bytecheck.proofs.skim.skimmed.Goals as goal
+
+pub returns : goal.returns
+returns c = none
