@@ -46,8 +46,14 @@ pub(crate) fn on_config(out: Stdout, bytes: &[u8], at: usize, config: Config) {
     let numbers = ahead(at, 1);
     match code {
         6 => answers::read(out, reading::read_pair(config, pair_at(bytes, numbers))),
-        7 => answers::written(out, writing::write_pair(config, operation_at(bytes, numbers))),
-        14 => answers::timed(out, trace_duration(config, word(bytes, numbers, 0) as usize)),
+        7 => answers::written(
+            out,
+            writing::write_pair(config, operation_at(bytes, numbers)),
+        ),
+        14 => answers::timed(
+            out,
+            trace_duration(config, word(bytes, numbers, 0) as usize),
+        ),
         _ => {}
     }
 }

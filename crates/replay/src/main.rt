@@ -1,6 +1,7 @@
 // Runs a script of calls on the library and writes each answer as text (docs/REPLAY.md). A test driver: what it writes is
 // compared with another implementation.
 #![tactic(auto)]
+
 mod answers;
 mod calls;
 mod script;

@@ -82,7 +82,13 @@ fn tick_once(out: Stdout, lent: bool, controller: Controller) -> Controller {
 }
 
 // The controller after a call; one of another kind leaves it, and 1 and 13 start anew.
-pub(crate) fn after(out: Stdout, bytes: &[u8], at: usize, config: Config, controller: Controller) -> Controller {
+pub(crate) fn after(
+    out: Stdout,
+    bytes: &[u8],
+    at: usize,
+    config: Config,
+    controller: Controller,
+) -> Controller {
     let code = word(bytes, at, 0);
     match code {
         1 | 13 => Controller::fresh(config),

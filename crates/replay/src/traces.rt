@@ -88,13 +88,23 @@ fn walk(out: Stdout, words: &[u32], config: Config) {
 }
 
 // 3: the whole check. 8 and 107: count the commands. 10: a walk. 15: the check in the limits of two sheets. 108: one advance.
-fn on_words(out: Stdout, bytes: &[u8], at: usize, words: &[u32], config: Config, checker: Checker) -> Checker {
+fn on_words(
+    out: Stdout,
+    bytes: &[u8],
+    at: usize,
+    words: &[u32],
+    config: Config,
+    checker: Checker,
+) -> Checker {
     let code = word(bytes, at, 0);
     match code {
         3 => answers::checked(out, wordcheck::check(config, words), word(bytes, at, 1)),
         8 => answers::counted(out, counts::count_commands(config, words)),
         10 => walk(out, words, config),
-        15 => answers::found(out, check_within(config, wired_at(bytes, ahead(at, 1)), words)),
+        15 => answers::found(
+            out,
+            check_within(config, wired_at(bytes, ahead(at, 1)), words),
+        ),
         107 => shown::counted(out, counts::count_commands(config, words)),
         _ => return advanced(out, advance_through(words, checker)),
     }
@@ -102,7 +112,14 @@ fn on_words(out: Stdout, bytes: &[u8], at: usize, words: &[u32], config: Config,
 }
 
 // A call on the words of a trace, with the place of their count.
-fn trace(out: Stdout, bytes: &[u8], at: usize, count: usize, config: Config, checker: Checker) -> Checker {
+fn trace(
+    out: Stdout,
+    bytes: &[u8],
+    at: usize,
+    count: usize,
+    config: Config,
+    checker: Checker,
+) -> Checker {
     let length = word(bytes, at, count) as usize;
     let buffer = loaded(bytes, ahead(ahead(at, count), 1));
     if length <= 16384 {
@@ -112,7 +129,13 @@ fn trace(out: Stdout, bytes: &[u8], at: usize, count: usize, config: Config, che
 }
 
 // The checker after a call; one of another kind leaves it, and 1 and 13 start anew.
-pub(crate) fn after(out: Stdout, bytes: &[u8], at: usize, config: Config, checker: Checker) -> Checker {
+pub(crate) fn after(
+    out: Stdout,
+    bytes: &[u8],
+    at: usize,
+    config: Config,
+    checker: Checker,
+) -> Checker {
     let code = word(bytes, at, 0);
     match code {
         1 | 13 => Checker::fresh(config),

@@ -1,0 +1,19 @@
+-- Piece by piece.
+use Rattle.std.proofs.Common.{[], ◌∷◌, arith}
+use Rattle.line.specs.Text.{decimal}
+use Rattle.line.proofs.Digits.{decimal-length}
+use Rattle.marker.specs.Mark.{refused_text}
+use Rattle.marker.proofs.Written.{three_pieces}
+use Rattle.marker.proofs.mark.refused.Goals as goal
+
+pub returns : goal.returns
+returns c =
+    three_pieces
+    refused_text
+    (decimal c.args.why)
+    (10 ∷ [])
+    (omega (arith, decimal-length c.args.why))
+    c.empty.ensures
+    c.piece.ensures
+    c.number.ensures
+    c.push.ensures
