@@ -1,5 +1,6 @@
 // Sheets known within limits: a trace on every sheet from a least one to a greatest.
 #![tactic(auto)]
+
 ghost use Rattle.std.specs.Prelude.{◌≡◌};
 ghost use Rattle.basics.specs.Outcome.{value, given};
 ghost use Rattle.config.specs.Configuration.{derived, timing_of};
