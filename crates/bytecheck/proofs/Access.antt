@@ -118,8 +118,8 @@ module _ (t : Timing) (s : Timestamps) (k : ℕ) where
   next-free (suc zero) (suc (suc next)) j h h' e from = absurd (omega arith)
 
   -- so the row of its own kind takes over
-  pub free_on : (last row : ℕ) → FreeFrom t s last row → (kind : ℕ) → kind < 2 → k ≤ limit → last + get_or (spacings_of t) (row + kind) 0 ≤ k
-      → (banks : List ℕ) → FreeFrom t (behind kind banks) k (2 * kind)
+  pub free_on : (last row : ℕ) → FreeFrom t s last row → (kind : ℕ) → kind < 2 → k ≤ limit
+      → last + get_or (spacings_of t) (row + kind) 0 ≤ k → (banks : List ℕ) → FreeFrom t (behind kind banks) k (2 * kind)
   free_on last row free kind small inside from banks next j small' inside' from' =
       let settled = (free kind j small inside' (omega arith)).0 in (
         record { ready = settled.ready; after_mode = settled.after_mode; after_refresh = settled.after_refresh },

@@ -135,6 +135,10 @@ desl_quiet t s k w cs due = (rw (early-kept t s k 0xC0000 w (driven w cs) due), 
 pub low_quiet : Quiet 0x40000 19 0
 low_quiet t s k w pd due = (rw (lt-leb (2 ^ 20) w (omega arith), pd, due), rw pd)
 
+-- where no word is passed
+pub stays : (t : Timing) (ws : List ℕ) (p : Place) → Passed t ws p p
+stays t ws p = none
+
 -- any number of words from clock k on that are quiet
 pub quiet_on : {first : ℕ} (shift top : ℕ) → Quiet first shift top → (t : Timing) (s : Timestamps) (ws : List ℕ) (k n : ℕ)
     → ((i : ℕ) → i < n → (k + i < length ws) × (get_or ws (k + i) 0 / 2 ^ shift ≡ top))

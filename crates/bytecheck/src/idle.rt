@@ -23,6 +23,7 @@ fn past_run(bytes: &[u8], clock: u32, end: u64, shift: u32, top: u32) -> u32
 
 // Passes over a whole sleep: the word at the clock, which goes low, those with PD low behind it, and the two wake-up words. The clock
 // itself where it is not sure that these breach nothing.
+#[tactic(auto, using(crate::proofs::Passing::stays))]
 fn past_power_down(timing: Timing, bytes: &[u8], stamps: Timestamps, clock: u32, end: u64) -> u32
     requires { (length bytes.now / 4 ≤ 16777216) × (end ≤ length bytes.now / 4) × (clock < end) }
     ensures { (clock ≤ result) × IdlePassed timing stamps end (words_of bytes.now) clock result }
@@ -47,6 +48,7 @@ fn past_power_down(timing: Timing, bytes: &[u8], stamps: Timestamps, clock: u32,
 }
 
 // Passes over the DESL words before `end` from the clock on, or over the sleep that begins there. The clock itself where neither does.
+#[tactic(auto, using(crate::proofs::Passing::stays))]
 pub(crate) fn past_idle(
     timing: Timing,
     bytes: &[u8],

@@ -32,8 +32,8 @@ fn current(track: Track) -> Timestamps
 }
 
 // From a clock on where nothing is met: DESL, sleeps, reads and writes. Neither the end nor the clock from which on reads and writes are
-// allowed changes by these. DESL comes first, since a long run of it often stands behind a refresh; where it ends pairs are tried, and where
-// they were tried before and nothing is passed since, the skim ends.
+// allowed changes by these. DESL comes first, since a long run of it often stands behind a refresh; where it ends pairs are tried, and
+// where they were tried before and nothing is passed since, the skim ends.
 fn skim(timing: Timing, bytes: &[u8], from: Timestamps, start: u32) -> Place
     requires { length bytes.now / 4 ≤ 16777216 }
     ensures { Passed timing (words_of bytes.now) (idle_at start from) result }

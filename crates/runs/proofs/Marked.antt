@@ -108,7 +108,8 @@ module _ (shift top : ℕ) (ws : List ℕ) where
     pub inside : z < n
     pub before : (i : ℕ) → i < z → get_or ws (from + i) 0 / 2 ^ shift ≡ top
 
-  pub marks-first : (d from n : ℕ) → n ≤ d → 0 < marks shift top ws from n → First from n (count_trailing_zeros d (marks shift top ws from n))
+  pub marks-first : (d from n : ℕ) → n ≤ d → 0 < marks shift top ws from n
+      → First from n (count_trailing_zeros d (marks shift top ws from n))
   unfolding marks count_trailing_zeros
   marks-first d from zero h some = absurd (omega arith)
   marks-first zero from (suc n) h some = absurd (omega arith)

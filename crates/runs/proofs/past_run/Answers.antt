@@ -25,7 +25,8 @@ pub returns : goal.returns
 returns c =
     let a = c.args in
     let past =
-    run_past (a.shift % 32) a.top (words_of a.bytes.now) 16 a.from c.lesser-stop.result (omega (arith, c.leading-lead.ensures)) (omega arith) in
+    run_past (a.shift % 32) a.top (words_of a.bytes.now) 16 a.from c.lesser-stop.result (omega (arith, c.leading-lead.ensures))
+    (omega arith) in
     c.past_singly-2.ensures
     ∙ c.past_eights-at.ensures.1
     ∙ past

@@ -1,8 +1,9 @@
 -- One word goes low, a run of low words changes nothing, and two wake-up words lead back.
-use Rattle.std.proofs.Common.{ℕ, ◌+◌, ◌/◌, ◌^◌, ◌<◌, ◌≡◌, refl, sym, ◌∙◌, subst, Bool, true, false, not, ◌||◌, nat_eq, length, rules, arith}
+use Rattle.std.proofs.Common.{ℕ, ◌+◌, ◌/◌, ◌^◌, ◌<◌, ◌≡◌, refl, ◌∙◌, subst, Bool, true, false, not, ◌||◌, nat_eq, length, arith}
 use borrow.Author.Tests.{eqb-true}
 use Rattle.words.specs.Words.{words_of}
 use Rattle.words.proofs.Listed.{words-length, word-listed}
+use Rattle.rules.specs.Breaches.{must_stay_high}
 use Rattle.bytecheck.specs.Passed.{Passed, none, more}
 use Rattle.bytecheck.specs.Quick.{idle_at}
 use Rattle.bytecheck.proofs.Passing.{low_quiet, low-passes, exit_passes, passed_on}
@@ -12,22 +13,11 @@ use Rattle.bytecheck.proofs.idle.past_power_down.Goals as goal
 both-desl : (v w : ℕ) → (not (nat_eq (v / 2 ^ 18) 3) || not (nat_eq (w / 2 ^ 18) 3)) ≡ false → (v / 2 ^ 18 ≡ 3) × (w / 2 ^ 18 ≡ 3)
 both-desl v w e = by (nat_eq (v / 2 ^ 18) 3) (nat_eq (w / 2 ^ 18) 3) refl refl e
   where
-    by : (a b : Bool) → nat_eq (v / 2 ^ 18) 3 ≡ a → nat_eq (w / 2 ^ 18) 3 ≡ b → (not a || not b) ≡ false → (v / 2 ^ 18 ≡ 3) × (w / 2 ^ 18 ≡ 3)
+    by : (a b : Bool) → nat_eq (v / 2 ^ 18) 3 ≡ a → nat_eq (w / 2 ^ 18) 3 ≡ b → (not a || not b) ≡ false
+        → (v / 2 ^ 18 ≡ 3) × (w / 2 ^ 18 ≡ 3)
     by true true p q h = (eqb-true (v / 2 ^ 18) 3 p, eqb-true (w / 2 ^ 18) 3 q)
     by true false p q h = absurd (cc h)
     by false b p q h = absurd (cc h)
-
-pub returns-then-word-ne1 : goal.returns-then-word-ne1
-returns-then-word-ne1 c = (search rules, λ due. none)
-
-pub returns-then-must_stay_high : goal.returns-then-must_stay_high
-returns-then-must_stay_high c = (search rules, λ due. none)
-
-pub returns-then-end-at : goal.returns-then-end-at
-returns-then-end-at c = (search rules, λ due. none)
-
-pub returns-then-first_exit-second_exit : goal.returns-then-first_exit-second_exit
-returns-then-first_exit-second_exit c = (search rules, λ due. none)
 
 pub returns : goal.returns
 returns c =
@@ -36,7 +26,12 @@ returns c =
     let ws = words_of bytes in
     let at = c.past_run-at.result in
     let run = c.past_run-at.ensures in
-    let kinds = both-desl c.word_at-first_exit.result c.word_at-second_exit.result c.if-first_exit-second_exit.false in
+    let v = c.word_at-first_exit.result in
+    let w = c.word_at-second_exit.result in
+    let low : c.word_at-word.result / 2 ^ 18 ≡ 1 = omega arith in
+    let may : must_stay_high a.timing a.stamps a.clock ≡ false = cc in
+    let tests : (not (nat_eq (v / 2 ^ 18) 3) || not (nat_eq (w / 2 ^ 18) 3)) ≡ false = cc in
+    let kinds = both-desl v w tests in
     let one : at + 1 + 1 ≡ at + 2 = omega arith in
     let k₀ : a.clock < length bytes / 4 = omega arith in
     let k₁ : at < length bytes / 4 = omega arith in
@@ -45,8 +40,7 @@ returns c =
       λ due.
           let goes =
           low-passes a.timing ws (idle_at a.clock a.stamps) (rw (words-length bytes) k₀)
-          (c.word_at-word.ensures ∙ word-listed bytes a.clock k₀) (due a.clock (omega arith)) refl c.if-word-ne1.false
-          (sym c.must_stay_high.ensures ∙ c.if-must_stay_high.false) in
+          (c.word_at-word.ensures ∙ word-listed bytes a.clock k₀) (due a.clock (omega arith)) refl low may in
           let wakes₁ =
           exit_passes a.timing ws (record { clock = at; met = 0x40000; stamps = a.stamps }) (rw (words-length bytes) k₁)
           (c.word_at-first_exit.ensures ∙ word-listed bytes at k₁) (due at (omega arith)) refl refl kinds.0 in
