@@ -1,5 +1,6 @@
 // Little-endian 32-bit words in a slice of bytes.
 #![tactic(auto)]
+
 ghost use Rattle.std.specs.Prelude.{◌≡◌, ◌≤◌, ◌<◌, length, get_or};
 ghost use Rattle.words.specs.Words.{first_word, word_at, PairTo};
 
