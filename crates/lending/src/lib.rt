@@ -1,5 +1,6 @@
 // The calls on what a caller lends, for callers that lend nothing: each lends a local, and hands back what is left in it.
 #![tactic(auto)]
+
 mod controllers;
 mod cursors;
 
