@@ -26,6 +26,8 @@ fn main(rt: HostRuntime) {
     }
     let count = input.count;
     if !write(rt.stdout(), mark::line_of(&buffer[..count])) {
-        let _ = rt.stderr().write_all(b"marker: the line cannot be written\n");
+        let _ = rt
+            .stderr()
+            .write_all(b"marker: the line cannot be written\n");
     }
 }

@@ -1,5 +1,5 @@
 -- 25 first, and then the verdict's line.
-use Rattle.std.proofs.Common.{◌≡◌, ◌≤◌, ◌/◌, ◌∙◌, ap, length, arith}
+use Rattle.std.proofs.Common.{◌≤◌, ◌/◌, ◌∙◌, ap, length, arith}
 use borrow.Author.Tests.{le-leb}
 use Rattle.marker.specs.Mark.{line_by}
 use Rattle.marker.proofs.mark.line_of.Goals as goal
