@@ -8,7 +8,7 @@ use config::Config;
 use walks::{Progress, next_word};
 
 // The words stay the caller's; the clock that the walk has reached is the checker's.
-#[derive(Drop)]
+#[derive(Clone, Copy)]
 pub struct TraceCursor<'a> {
     pub words: &'a [u32],
     pub checker: Checker,
