@@ -1,5 +1,6 @@
 // The controller: it keeps requests waiting and gives the words of its ticks.
 #![tactic(auto)]
+
 mod next;
 mod offering;
 mod state;

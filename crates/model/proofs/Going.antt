@@ -21,7 +21,7 @@ use Rattle.rules.proofs.Newest.{Ordered}
 use Rattle.rules.proofs.Summary.{summary}
 use Rattle.rules.proofs.Words.{ordered_mono, breach-is}
 use Rattle.queue.specs.Place.{without}
-use Rattle.model.specs.Laid.{entry_at, Course, start, candidate, breachless, opening, first_word, leave, giving, Advance, tick_at}
+use Rattle.model.specs.Laid.{entry_at, Course, candidate, breachless, opening, first_word, leave, giving, Advance, tick_at}
 use Rattle.rules.specs.Turns.{request_of, requests_of, starts_of}
 use Rattle.model.proofs.Figures.{Figures}
 use Rattle.model.proofs.Candidates.{Due, entry-fits, candidate-due, fits_open}

@@ -11,7 +11,6 @@ use Rattle.model.proofs.Places.{only, only-map, without-map, Foremost}
 use Rattle.model.proofs.Prompt.{Awaited, requests, lower}
 use Rattle.model.proofs.Choice.{Ahead}
 use Rattle.model.proofs.Fulfilled.{Met, one-met, bounds_of}
-use Rattle.model.proofs.Unopened.{bound}
 
 -- the requests and bounds stay when ranks fall
 pub lower-requests : (xs : List Awaited) → requests (map lower xs) ≡ requests xs

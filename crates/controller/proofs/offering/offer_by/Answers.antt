@@ -13,7 +13,7 @@ returns-then-controller-lt-CAPACITY c =
       ← c.request_fits.ensures,
       c.if-not-request_fits.false,
       lt-ltb s.count 16 c.if-controller-lt-CAPACITY.true,
-      c.joined.ensures
+      c.joined.ensures,
     )
 
 pub returns-else-controller-lt-CAPACITY : goal.returns-else-controller-lt-CAPACITY
@@ -26,5 +26,5 @@ returns-else-controller-lt-CAPACITY c =
       ← c.request_fits.ensures,
       c.if-not-request_fits.false,
       le-ltb s.count 16 c.if-controller-lt-CAPACITY.false,
-      c.not_offered-else-controller-lt-CAPACITY.ensures
+      c.not_offered-else-controller-lt-CAPACITY.ensures,
     )
