@@ -15,7 +15,9 @@ use Rattle.line.proofs.Appended.{joined}
 
 -- a line with the digit of the i-th power, and then with the digits of the later ones
 pub one_more : (l : Line) (n i : ℕ) → i < 9
-    → appended (appended l (cond (leb (get_or powers i 0) n) ((48 + n / get_or powers i 0 % 10) ∷ []) [])) (digits_by (drop (i + 1) powers) n)
+    → appended
+    (appended l (cond (leb (get_or powers i 0) n) ((48 + n / get_or powers i 0 % 10) ∷ []) []))
+    (digits_by (drop (i + 1) powers) n)
     ≡ appended l (digits_by (drop i powers) n)
 one_more l n i h = rw (joined, add-one, drop-cons powers i 0 h)
 
