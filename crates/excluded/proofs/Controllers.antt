@@ -58,7 +58,8 @@ none_open : (t : Timing) (calls : List Call) (r : Run) (a : Accepted) (newer : L
 none_open t calls r a newer e empty closed late h = omega (arith, rw (empty, closed) at (h [] newer a e late).0)
 
 -- DESL closes no pair
-desls_close : (n k : ℕ) (ps : List ClosedPair) → (past_from (record { clock = k; phase = free; pairs = ps }) (replicate n 0xC0000)).pairs ≡ ps
+desls_close : (n k : ℕ) (ps : List ClosedPair)
+    → (past_from (record { clock = k; phase = free; pairs = ps }) (replicate n 0xC0000)).pairs ≡ ps
 desls_close zero k ps = refl
 desls_close (suc n) k ps = desls_close n (k + 1) ps
 

@@ -52,7 +52,8 @@ idle_calls ticks = offer bank0_read ∷ replicate ticks tick
 
 -- a run that gives those words, with the read accepted before the first tick
 abbrev pub idle_run : ℕ → Controller → Run
-idle_run desls s = record { words = idle_words desls; accepted = record { request = bank0_read; ticks = 0; ahead = 0 } ∷ []; controller = s }
+idle_run desls s =
+    record { words = idle_words desls; accepted = record { request = bank0_read; ticks = 0; ahead = 0 } ∷ []; controller = s }
 
 -- n reads of bank 0, each of the next row
 abbrev pub reads_from : ℕ → ℕ → List Request
@@ -148,7 +149,8 @@ pub record Examiners : Type 0 where
   -- one that does not leave its first state: at a word that passes the clock goes one on, and a breach changes the state too
   pub step_stays : (s after : Checker) (w : ℕ) → (after.clock ≡ s.clock + 1 → ⊥) → NoStep s w Verdict.Accepted after
   pub step-stays_in_breach : (s : Checker) (w : ℕ) (b : Breach) → NoStep s w (Verdict.InBreach b) s
-  pub check-stays : (c : Config) (t : Timing) (v : Verdict) → verdict_outcome v ≡ value (by_first_state t wrong_mode) → NoCheck c wrong_mode v
+  pub check-stays : (c : Config) (t : Timing) (v : Verdict) → verdict_outcome v ≡ value (by_first_state t wrong_mode)
+      → NoCheck c wrong_mode v
   pub bytes_stay : (c : Config) (t : Timing) (v : Verdict) → verdict_outcome v ≡ value (by_first_state t wrong_mode)
       → NoCheckBytes c wrong_mode_bytes v
 

@@ -11,7 +11,8 @@ use lib.Dec.{leb, ltb}
 use Rattle.config.specs.declared.Timing.{Timing}
 use Rattle.command.specs.Pins.{high}
 use Rattle.command.specs.Pairs.{selected}
-use Rattle.rules.specs.History.{ClosedPair, idle, powered_down, exiting, Phase, pair, between, Past, nothing, next_phase, next_pairs, extend}
+use Rattle.rules.specs.History.{ClosedPair, idle, powered_down, exiting, Phase, pair, between}
+use Rattle.rules.specs.History.{Past, nothing, next_phase, next_pairs, extend}
 use Rattle.rules.specs.Rules.{closings, was_refresh, rule1, rule2, rule3, rule13, exit_word, rules, lowest, breach_by, breach_at}
 use Rattle.rules.specs.Verdict.{Judgement, accepted, breach, lead, judge_by, judge_from, judge}
 use Rattle.rules.proofs.Gaps.{Gaps, gaps-behind, short-gaps}

@@ -75,7 +75,8 @@ module _ (a b : Config) (words : List ℕ) where
       let k = config.behind-refusal b _ (h b) g.1 in
       (g.0, k.0, k.1)
 
-  only_no_limits : within_of a b words ≡ refused 35 → (timing_of a ≡ value (derived a)) × (timing_of b ≡ value (derived b)) × (Ordered a b → ⊥)
+  only_no_limits : within_of a b words ≡ refused 35
+      → (timing_of a ≡ value (derived a)) × (timing_of b ≡ value (derived b)) × (Ordered a b → ⊥)
   only_no_limits e =
       let k = behind-both (λ c. config.config_above c 35 (omega arith)) e in
       let later : Not 35 _ = require-not (leb (length words) 16777216) 24 35 _ (λ q. omega arith) (value_not 35 found) in

@@ -15,7 +15,8 @@ use Rattle.command.specs.Pairs.{selected, lal, is_read, is_write, is_mode, is_re
 use Rattle.command.specs.Address.{bank_of}
 use Rattle.reading.specs.Reading.{register_fits}
 use Rattle.rules.specs.History.{ClosedPair, Phase, pair, between, idle, powered_down, exiting, Past}
-use Rattle.rules.specs.Rules.{Rule, was_read, was_write, was_access, was_mode, was_refresh, earlier, closings, too_soon_to_power_down, at_closing}
+use Rattle.rules.specs.Rules.{Rule, was_read, was_write, was_access, was_mode, was_refresh, earlier, closings}
+use Rattle.rules.specs.Rules.{too_soon_to_power_down, at_closing}
 use Rattle.rules.specs.Rules.{rule2, rule3, rule4, rule5, rule6, rule7, rule8, rule9, rule10, rule11, rule12}
 use Rattle.relaxed.specs.Dependence.{Every, Suffices, dependences}
 

@@ -32,7 +32,8 @@ given-refused x f e = ap (λ o. given o f) e
 everywhere : (c : Config) (n : ℕ) → timing_of c ≡ refused n → RefusedBy n c
 everywhere c n e =
     let bytes : (bs : List ℕ) → check_bytes_of c bs ≡ refused n = λ bs. given-refused (timing_of c) _ e in
-    let stepped : (s : Checker) (w : ℕ) → s.config ≡ c → step_of s w ≡ refusing s n = λ s w h. ap (λ o. step_by o s w) (ap timing_of h ∙ e) in
+    let stepped : (s : Checker) (w : ℕ) → s.config ≡ c → step_of s w ≡ refusing s n =
+    λ s w h. ap (λ o. step_by o s w) (ap timing_of h ∙ e) in
     record {
       read = λ p. given-refused (timing_of c) _ e;
       write = λ o. given-refused (timing_of c) _ e;
