@@ -10,10 +10,9 @@ document a name is turned where it is in camel case, or between backticks.
 
 import os
 import re
+import subprocess
 import sys
 
-STD = "/opt/rattle/rattle/std"
-DELIMITERS = r"[\s(){}\[\];,.\"λ\\@]"
 TOKEN = re.compile(r"[^\s(){}\[\];,.\"λ\\@`]+")
 DEFINED = re.compile(r"^\s*(?:abbrev |unfoldable |pub |private )*([^\s:(){}.,;=\"]+)(?:,? [^\s:(){}.,;=\"]+)* :(?=\s|$)")
 # Lemmas that would have the name of the definition that they speak of.
@@ -49,8 +48,10 @@ def defined(paths):
 
 def library():
     """The plain words of the library, as a file of proofs or of specs imports them."""
+    page = subprocess.run(["rt", "doc"], capture_output=True, text=True, check=True).stdout.strip()
+    std = os.path.join(os.path.dirname(page), "rattle", "std")
     words = set()
-    for path in (STD + "/specs/Prelude.antt", STD + "/proofs/Common.antt"):
+    for path in (std + "/specs/Prelude.antt", std + "/proofs/Common.antt"):
         words |= {w for w in TOKEN.findall(read(path)) if re.fullmatch(r"[a-z_0-9']+", w)}
     return words
 
