@@ -1,4 +1,4 @@
-// What most crates use: the refusals of the whole product, the clock limit, and a choice between two numbers.
+// What most crates use: the refusals of the whole product, the clock limit, and a choice between two values.
 #![tactic(auto)]
 
 mod refusal;
@@ -11,7 +11,7 @@ pub use refusal::Refusal;
 pub const LIMIT: u32 = 16777216;
 
 // x where the test holds, and otherwise y.
-pub fn choose(test: bool, x: u32, y: u32) -> u32
+pub fn choose<T: Copy>(test: bool, x: T, y: T) -> T
     ensures { result ≡ cond test x y }
 {
     if test { x } else { y }

@@ -1,3 +1,2 @@
 -- What the contracts of this crate say: the sheet, and the answer of its test.
 pub mod Configuration
-pub mod Answers

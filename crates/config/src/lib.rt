@@ -8,7 +8,7 @@ mod wired;
 ghost use Rattle.std.specs.Prelude.{◌≡◌, ◌≤◌, ◌<◌, max};
 ghost use Rattle.config.specs.Configuration.{least_period, part_fits, wiring_fits, period_fits, counts_fit, refresh_fits};
 ghost use Rattle.config.specs.Configuration.{derived, timing_of, institute};
-ghost use Rattle.config.specs.Answers.{timingOutcome};
+ghost use Rattle.basics.specs.Answers.{outcome_of};
 
 use basics::{Refusal, choose};
 
@@ -64,29 +64,16 @@ pub struct Timing {
     spacing: u32,
 }
 
-// The timing, or the refusal of the configuration.
-#[derive(Clone, Copy)]
-pub enum TimingAnswer {
-    Accepted(Timing),
-    Refused(Refusal),
-}
-
 // The least period in picoseconds: a row for grade 37 and one for grade 50, a column for each of CL 3, 4 and 5.
 const LEAST_PERIOD: [[u32; 3]; 2] = [[5500, 4500, 3750], [6000, 5500, 5000]];
 
 const GREATEST_PERIOD: u32 = 8500;
 
-fn greater(x: u32, y: u32) -> u32
-    ensures { result ≡ max x y }
-{
-    if x < y { y } else { x }
-}
-
 fn least_period(grade: u32, cl: u32) -> Picoseconds
     requires { (3 ≤ cl) × (cl ≤ 5) }
     ensures { result.0 ≡ least_period grade cl }
 {
-    let row = choose(grade == 37, 0, 1) as usize;
+    let row = choose(grade == 37, 0, 1);
     let column = (cl - 3) as usize;
     Picoseconds(LEAST_PERIOD[row][column])
 }
@@ -158,8 +145,8 @@ impl Config {
         let refi = 3900000 / self.period.0;
         let window = 3200000 / self.period.0 + 1;
         let cycle = choose(self.cl == 5, 6, 5);
-        let turnaround = greater(self.rwd.0 + 1, self.wrd.0 + 1);
-        let spacing = greater(greater(cycle, self.rbd.0), turnaround);
+        let turnaround = (self.rwd.0 + 1).max(self.wrd.0 + 1);
+        let spacing = cycle.max(self.rbd.0).max(turnaround);
         Timing {
             cl: self.cl,
             bl: self.bl,
@@ -179,24 +166,24 @@ impl Config {
     }
 
     // The timing of an accepted configuration, or the refusal: 20, 34, 21, 22 and 33, tried in this order.
-    pub fn timing(self) -> TimingAnswer
-        ensures { timingOutcome result ≡ timing_of self }
+    pub fn timing(self) -> Result<Timing, Refusal>
+        ensures { outcome_of result ≡ timing_of self }
     {
         if !self.part_fits() {
-            return TimingAnswer::Refused(Refusal::Part);
+            return Err(Refusal::Part);
         }
         if !self.wiring_fits() {
-            return TimingAnswer::Refused(Refusal::Wiring);
+            return Err(Refusal::Wiring);
         }
         if !self.period_fits() {
-            return TimingAnswer::Refused(Refusal::Period);
+            return Err(Refusal::Period);
         }
         if !self.counts_fit() {
-            return TimingAnswer::Refused(Refusal::Count);
+            return Err(Refusal::Count);
         }
         if !self.refresh_fits() {
-            return TimingAnswer::Refused(Refusal::ShortRefresh);
+            return Err(Refusal::ShortRefresh);
         }
-        TimingAnswer::Accepted(self.derived())
+        Ok(self.derived())
     }
 }
