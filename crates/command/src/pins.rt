@@ -34,17 +34,14 @@ pub const PD: u32 = 0x80000;
 pub fn high(word: u32, pin: u32) -> bool
     ensures { result ≡ high_by pin word }
 {
-    if pin == 0 {
-        return false;
-    }
-    word / pin % 2 == 1
+    pin != 0 && word / pin % 2 == 1
 }
 
 // A pin's level as a number.
 pub fn bit(high: bool) -> u32
     ensures { (result ≡ level high) × (result ≤ 1) }
 {
-    if high { 1 } else { 0 }
+    u32::from(high)
 }
 
 // n where the test holds, and otherwise 0.

@@ -7,13 +7,13 @@ ghost use Rattle.command.specs.Pins.{pins};
 ghost use Rattle.reading.specs.Reading.{lane_by, access_of, mode_by, operation_of, register_fits};
 ghost use Rattle.reading.specs.Reading.{latency_of, burst_of, decoded_of};
 ghost use Rattle.reading.specs.Reading.{mode_wrong, lane_reserved, sound_pair, read_pair};
-ghost use Rattle.reading.specs.Answers.{readOutcome};
+ghost use Rattle.basics.specs.Answers.{outcome_of};
 
 use basics::{Refusal, choose};
 use command::address::{bank, row};
 use command::pins::{A0, A1, A3, A4, A7, A11, A12, A13, BA0, BA1, BA2, CS, FN, PD, high, kept};
 use command::{Operation, Pair, Request};
-use config::{Clocks, Config, Timing, TimingAnswer};
+use config::{Clocks, Config, Timing};
 
 // What reading a pair gives: its operation, and when the data of a read or write lie on the data pins.
 #[derive(Clone, Copy)]
@@ -25,24 +25,17 @@ pub struct Decoded {
     pub burst: Clocks,
 }
 
-// What reading gives, or the refusal.
-#[derive(Clone, Copy)]
-pub enum ReadAnswer {
-    Read(Decoded),
-    Refused(Refusal),
-}
-
 // The words that a lane writes, at BL 2 or at BL 4, by its VW pins; 0 is the reserved code.
 fn lane(short: bool, vw0: bool, vw1: bool) -> u32
     ensures { result ≡ lane_by short vw0 vw1 }
 {
-    if short {
-        return if vw0 { 1 } else { 2 };
-    }
-    if vw0 {
-        if vw1 { 1 } else { 4 }
-    } else {
-        if vw1 { 2 } else { 0 }
+    match (short, vw0, vw1) {
+        (true, true, _) => 1,
+        (true, false, _) => 2,
+        (false, true, true) => 1,
+        (false, true, false) => 4,
+        (false, false, true) => 2,
+        (false, false, false) => 0,
     }
 }
 
@@ -57,10 +50,11 @@ fn column(wide: bool, second: u32) -> u32
 }
 
 // The request of a read or a write.
-fn access(timing: Timing, write: bool, first: u32, second: u32) -> Request
-    ensures { result ≡ access_of timing write first second }
+fn access(timing: Timing, write: bool, pair: Pair) -> Request
+    ensures { result ≡ access_of timing write pair.first pair.second }
 {
     let figures = timing.figures();
+    let Pair { first, second } = pair;
     let wide = figures.organisation == 16;
     let short = figures.bl == 2;
     let lower = lane(short, high(second, BA2), high(second, A13));
@@ -89,15 +83,12 @@ fn mode(extended: bool, second: u32) -> Operation
 fn operation(timing: Timing, pair: Pair) -> Operation
     ensures { result ≡ operation_of timing pair.first pair.second }
 {
-    let first = pair.first;
-    let second = pair.second;
-    let rda = high(first, FN);
-    let lal = high(second, CS);
+    let rda = high(pair.first, FN);
+    let lal = high(pair.second, CS);
     if lal {
-        return Operation::Access(access(timing, !rda, first, second));
-    }
-    if rda {
-        mode(high(second, BA0), second)
+        Operation::Access(access(timing, !rda, pair))
+    } else if rda {
+        mode(high(pair.second, BA0), pair.second)
     } else {
         Operation::Refresh
     }
@@ -143,49 +134,45 @@ fn register_fits(extended: bool, timing: Timing, second: u32) -> bool
 }
 
 // Rule 4 (RULES 4.4): the pair is a mode, and its MRS has a wrong field.
-pub fn mode_wrong(timing: Timing, first: u32, second: u32) -> bool
-    ensures { result ≡ mode_wrong timing first second }
+pub fn mode_wrong(timing: Timing, pair: Pair) -> bool
+    ensures { result ≡ mode_wrong timing pair.first pair.second }
 {
+    let second = pair.second;
     let register = register_fits(high(second, BA0), timing, second);
-    (high(first, FN) & !high(second, CS))
+    (high(pair.first, FN) & !high(second, CS))
         & !((second / BA1 % 4 == 0) & (second / A7 % 128 == 0) & register)
 }
 
 // Rule 5 (RULES 4.5): the pair is a write, and its LAL has a reserved lane.
-pub fn lane_reserved(timing: Timing, first: u32, second: u32) -> bool
-    ensures { result ≡ lane_reserved timing first second }
+pub fn lane_reserved(timing: Timing, pair: Pair) -> bool
+    ensures { result ≡ lane_reserved timing pair.first pair.second }
 {
     let figures = timing.figures();
+    let second = pair.second;
     let lower = !high(second, BA2) & !high(second, A13);
     let upper = !high(second, A12) & !high(second, A11);
-    (!high(first, FN) & high(second, CS))
+    (!high(pair.first, FN) & high(second, CS))
         & ((figures.bl == 4) & (lower | (figures.organisation == 16) & upper))
 }
 
-fn sound_pair(timing: Timing, first: u32, second: u32) -> bool
-    ensures { result ≡ sound_pair timing first second }
+fn sound_pair(timing: Timing, pair: Pair) -> bool
+    ensures { result ≡ sound_pair timing pair.first pair.second }
 {
-    let wrong = mode_wrong(timing, first, second);
-    let reserved = lane_reserved(timing, first, second);
+    let Pair { first, second } = pair;
     !high(first, CS)
         & !((0x100000 <= first) | (0x100000 <= second))
         & (high(first, PD) & high(second, PD))
-        & !wrong
-        & !reserved
+        & !mode_wrong(timing, pair)
+        & !lane_reserved(timing, pair)
 }
 
 // Reads a pair: the configuration's refusals, then 28 for words that are no sound pair (RULES 3.4).
-pub fn read_pair(config: Config, pair: Pair) -> ReadAnswer
-    ensures { readOutcome result ≡ read_pair config pair }
+pub fn read_pair(config: Config, pair: Pair) -> Result<Decoded, Refusal>
+    ensures { outcome_of result ≡ read_pair config pair }
 {
-    match config.timing() {
-        TimingAnswer::Refused(why) => ReadAnswer::Refused(why),
-        TimingAnswer::Accepted(timing) => {
-            if sound_pair(timing, pair.first, pair.second) {
-                ReadAnswer::Read(decode(timing, pair))
-            } else {
-                ReadAnswer::Refused(Refusal::NotAPair)
-            }
-        }
+    let timing = config.timing()?;
+    if !sound_pair(timing, pair) {
+        return Err(Refusal::NotAPair);
     }
+    Ok(decode(timing, pair))
 }

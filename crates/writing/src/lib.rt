@@ -4,20 +4,13 @@
 ghost use Rattle.std.specs.Prelude.{◌≡◌, cond, not, ◌&&◌, ◌+◌, ◌*◌, ◌≤◌, eqb};
 ghost use Rattle.command.specs.Pins.{level};
 ghost use Rattle.writing.specs.Writing.{request_fits, operation_fits, access_pair, pair_of, write_pair};
-ghost use Rattle.writing.specs.Answers.{writeOutcome};
+ghost use Rattle.basics.specs.Answers.{outcome_of};
 
 use basics::Refusal;
 use command::address::{address, address_fits};
 use command::pins::{A0, A1, A3, A4, A11, A12, A13, BA0, BA2, CS, FN, PD, bit, kept};
 use command::{Operation, Pair, Request};
-use config::{Config, Timing, TimingAnswer};
-
-// The pair, or the refusal.
-#[derive(Clone, Copy)]
-pub enum WriteAnswer {
-    Written(Pair),
-    Refused(Refusal),
-}
+use config::{Config, Timing};
 
 // Every field of the request is in its range.
 pub fn request_fits(timing: Timing, request: Request) -> bool
@@ -43,9 +36,8 @@ fn operation_fits(timing: Timing, operation: Operation) -> bool
 {
     match operation {
         Operation::Access(request) => request_fits(timing, request),
-        Operation::Regular(_) => true,
         Operation::Extended(v) => v <= 63,
-        Operation::Refresh => true,
+        Operation::Regular(_) | Operation::Refresh => true,
     }
 }
 
@@ -78,15 +70,13 @@ fn access(timing: Timing, request: Request) -> Pair
 pub fn encode(timing: Timing, operation: Operation) -> Pair
     ensures { result ≡ pair_of timing operation }
 {
+    let figures = timing.figures();
     match operation {
         Operation::Access(request) => access(timing, request),
-        Operation::Regular(a3) => {
-            let figures = timing.figures();
-            Pair {
-                first: PD + FN,
-                second: PD + figures.cl % 8 * A4 + bit(a3) * A3 + figures.bl / 2 % 8 * A0,
-            }
-        }
+        Operation::Regular(a3) => Pair {
+            first: PD + FN,
+            second: PD + figures.cl % 8 * A4 + bit(a3) * A3 + figures.bl / 2 % 8 * A0,
+        },
         Operation::Extended(v) => Pair {
             first: PD + FN,
             second: PD + BA0 + v % 64 * A1,
@@ -99,17 +89,12 @@ pub fn encode(timing: Timing, operation: Operation) -> Pair
 }
 
 // Writes an operation: the configuration's refusals, then 26 for a field out of range.
-pub fn write_pair(config: Config, operation: Operation) -> WriteAnswer
-    ensures { writeOutcome result ≡ write_pair config operation }
+pub fn write_pair(config: Config, operation: Operation) -> Result<Pair, Refusal>
+    ensures { outcome_of result ≡ write_pair config operation }
 {
-    match config.timing() {
-        TimingAnswer::Refused(why) => WriteAnswer::Refused(why),
-        TimingAnswer::Accepted(timing) => {
-            if operation_fits(timing, operation) {
-                WriteAnswer::Written(encode(timing, operation))
-            } else {
-                WriteAnswer::Refused(Refusal::Field)
-            }
-        }
+    let timing = config.timing()?;
+    if !operation_fits(timing, operation) {
+        return Err(Refusal::Field);
     }
+    Ok(encode(timing, operation))
 }
