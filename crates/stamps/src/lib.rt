@@ -2,10 +2,11 @@
 #![tactic(auto)]
 
 ghost use Rattle.std.specs.Prelude.{◌≡◌, ◌<◌};
-ghost use Rattle.stamps.specs.Stamps.{with_access, with_mode, with_refresh, remembered, next_stamps, never};
+ghost use Rattle.stamps.specs.Stamps.{with_access, with_mode, with_refresh, remembered, next_stamps, never, start};
 ghost use Rattle.stamps.specs.Stamps.{is_powered_down, is_exiting, next_met};
 
 use basics::choose;
+use command::Pair;
 use command::address::bank;
 use command::pins::{BA0, CS, FN, PD, high};
 
@@ -58,61 +59,45 @@ impl Timestamps {
     {
         let mut banks = self.banks;
         banks[bank] = clock;
-        let refs = self.refs;
         Timestamps {
-            extended: self.extended,
-            regular: self.regular,
-            mode: self.mode,
             read: choose(read, clock, self.read),
             write: choose(read, self.write, clock),
             banks,
-            refs,
+            ..self
         }
     }
 
     fn with_mode(self, clock: u32, extended: bool) -> Timestamps
         ensures { result ≡ with_mode self clock extended }
     {
-        let banks = self.banks;
-        let refs = self.refs;
         Timestamps {
             extended: choose(extended & (self.extended == 0), clock, self.extended),
             regular: choose(extended, self.regular, clock),
             mode: clock,
-            read: self.read,
-            write: self.write,
-            banks,
-            refs,
+            ..self
         }
     }
 
     fn with_refresh(self, clock: u32) -> Timestamps
         ensures { result ≡ with_refresh self clock }
     {
-        let banks = self.banks;
-        let r = self.refs;
-        let refs = [clock, r[0], r[1], r[2], r[3], r[4], r[5], r[6]];
+        let [r0, r1, r2, r3, r4, r5, r6, _] = self.refs;
         Timestamps {
-            extended: self.extended,
-            regular: self.regular,
-            mode: self.mode,
-            read: self.read,
-            write: self.write,
-            banks,
-            refs,
+            refs: [clock, r0, r1, r2, r3, r4, r5, r6],
+            ..self
         }
     }
 
     // What is kept once a pair has closed at this clock, with four banks or eight.
-    pub fn remembered(self, four: bool, clock: u32, first: u32, second: u32) -> Timestamps
-        ensures { result ≡ remembered four self clock first second }
+    pub fn remembered(self, four: bool, clock: u32, pair: Pair) -> Timestamps
+        ensures { result ≡ remembered four self clock pair.first pair.second }
     {
+        let Pair { first, second } = pair;
         let rda = high(first, FN);
         let lal = high(second, CS);
         if lal {
-            return self.with_access(clock, rda, bank(four, first) as usize);
-        }
-        if rda {
+            self.with_access(clock, rda, bank(four, first) as usize)
+        } else if rda {
             self.with_mode(clock, high(second, BA0))
         } else {
             self.with_refresh(clock)
@@ -123,11 +108,36 @@ impl Timestamps {
     pub fn after(self, four: bool, clock: u32, first: u32, word: u32) -> Timestamps
         ensures { result ≡ next_stamps four self clock first word }
     {
-        let opened = !high(first, CS);
-        if opened {
-            self.remembered(four, clock, first, word)
-        } else {
-            self
+        if high(first, CS) {
+            return self;
+        }
+        let pair = Pair {
+            first,
+            second: word,
+        };
+        self.remembered(four, clock, pair)
+    }
+}
+
+// What is kept of the words before: the clock of the next one, what that one meets, and the events.
+#[derive(Clone, Copy)]
+pub struct Past {
+    pub clock: u32,
+    // The first word of the open pair, which has CS low; or, with CS high, DESL for nothing, asleep if PD is low, the second wake-up word
+    // due if PD and FN are high.
+    pub met: u32,
+    pub stamps: Timestamps,
+}
+
+impl Past {
+    // Before the first word.
+    pub fn start() -> Past
+        ensures { result ≡ start }
+    {
+        Past {
+            clock: 0,
+            met: DESL,
+            stamps: Timestamps::never(),
         }
     }
 }
@@ -136,17 +146,14 @@ impl Timestamps {
 pub fn is_powered_down(first: u32) -> bool
     ensures { result ≡ is_powered_down first }
 {
-    let no_pair = high(first, CS);
-    no_pair & !high(first, PD)
+    high(first, CS) & !high(first, PD)
 }
 
 // The second of the two wake-up words is due.
 pub fn is_exiting(first: u32) -> bool
     ensures { result ≡ is_exiting first }
 {
-    let unpaired = high(first, CS);
-    let driven = high(first, PD);
-    unpaired & (driven & high(first, FN))
+    high(first, CS) & (high(first, PD) & high(first, FN))
 }
 
 // What the word behind this one meets.
