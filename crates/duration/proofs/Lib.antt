@@ -1,3 +1,2 @@
--- The three ways that the call goes (Ways), and the theorem of specs/Exact.
-pub mod Ways
+-- The theorem of specs/Exact.
 pub mod Exact

@@ -2,11 +2,11 @@
 #![tactic(auto)]
 
 ghost use Rattle.std.specs.Prelude.{◌≡◌, ◌*◌, ◌≤◌};
+ghost use Rattle.basics.specs.Answers.{outcome_of};
 ghost use Rattle.duration.specs.Duration.{in_nanoseconds, duration_of};
-ghost use Rattle.duration.specs.Answers.{durationOutcome};
 
 use basics::{LIMIT, Refusal};
-use config::{Config, Nanoseconds, Picoseconds, TimingAnswer};
+use config::{Config, Nanoseconds, Picoseconds};
 
 // A length in time: whole nanoseconds, and the picoseconds left over; of an answer, fewer than 1,000.
 #[derive(Clone, Copy)]
@@ -15,19 +15,12 @@ pub struct Duration {
     pub rest: Picoseconds,
 }
 
-// How long the trace lasts, or the refusal.
-#[derive(Clone, Copy)]
-pub enum DurationAnswer {
-    Lasts(Duration),
-    Refused(Refusal),
-}
-
 // So many periods in picoseconds, which 32 bits do not hold.
 fn picoseconds(count: usize, period: Picoseconds) -> u64
     requires { (count ≤ 16777216) × (period.0 ≤ 8500) }
     ensures { (result ≡ count * period.0) × (result ≤ 16777216 * 8500) }
 {
-    count as u64 * period.0 as u64
+    count as u64 * u64::from(period.0)
 }
 
 fn in_nanoseconds(picoseconds: u64) -> Duration
@@ -41,17 +34,12 @@ fn in_nanoseconds(picoseconds: u64) -> Duration
 }
 
 // How long a trace of so many words lasts on the sheet. Refuses by the sheet's numbers, then by 32 for more than 16,777,216 words.
-pub fn trace_duration(config: Config, count: usize) -> DurationAnswer
-    ensures { durationOutcome result ≡ duration_of config count }
+pub fn trace_duration(config: Config, count: usize) -> Result<Duration, Refusal>
+    ensures { outcome_of result ≡ duration_of config count }
 {
-    match config.timing() {
-        TimingAnswer::Refused(why) => DurationAnswer::Refused(why),
-        TimingAnswer::Accepted(_) => {
-            if count <= LIMIT as usize {
-                DurationAnswer::Lasts(in_nanoseconds(picoseconds(count, config.period)))
-            } else {
-                DurationAnswer::Refused(Refusal::WordCount)
-            }
-        }
+    config.timing()?;
+    if count > LIMIT as usize {
+        return Err(Refusal::WordCount);
     }
+    Ok(in_nanoseconds(picoseconds(count, config.period)))
 }
