@@ -23,13 +23,10 @@ fn lowest_early(stray: bool, low: bool, overdue: bool) -> u32
 pub fn deadline(refi: u32, refs: [u32; 8]) -> u64
     ensures { result ≡ deadline refi refs }
 {
-    let mut m: usize = 8;
-    while 0 < m {
-        let oldest = refs[m - 1];
-        if oldest != 0 {
-            return oldest as u64 + m as u64 * refi as u64;
+    for i in (0..8).rev() {
+        if refs[i] != 0 {
+            return u64::from(refs[i]) + (i as u64 + 1) * u64::from(refi);
         }
-        m -= 1;
     }
     0
 }
@@ -39,6 +36,6 @@ pub fn deadline(refi: u32, refs: [u32; 8]) -> u64
 pub fn early_breach(low: bool, last: u64, clock: u32, word: u32) -> u32
     ensures { result ≡ early_breach low last clock word }
 {
-    let overdue = !(last == 0) & (last < clock as u64);
+    let overdue = (last != 0) & (last < u64::from(clock));
     lowest_early(0x100000 <= word, low, overdue)
 }
