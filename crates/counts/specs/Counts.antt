@@ -1,8 +1,9 @@
 -- The counts of a trace (RULES 9.1), the paper's tally: words and pairs are told apart as for the rules (RULES 2.2, 2.8), and nothing
 -- is judged.
-use Rattle.std.specs.Prelude.{ℕ, ◌+◌, Bool, not, ◌||◌, List, [], ◌∷◌, length, leb}
+use Rattle.std.specs.Prelude.{ℕ, ◌+◌, Bool, not, ◌||◌, Result, Ok, Err, List, [], ◌∷◌, length, leb}
 use Rattle.basics.specs.Outcome.{Outcome, value, refused, require, given}
 use Rattle.basics.specs.Numbers.{refusal_number}
+use Rattle.basics.specs.declared.refusal.Refusal.{Refusal}
 use Rattle.config.specs.Configuration.{timing_of}
 use Rattle.config.specs.declared.Config.{Config}
 use Rattle.config.specs.declared.Timing.{Timing}
@@ -12,8 +13,7 @@ use Rattle.reading.specs.Reading.{operation_of, burst_of}
 use Rattle.rules.specs.History.{ClosedPair, Phase, pair, between, Past, nothing, extend, past_from}
 use Rattle.rules.specs.Rules.{was_read, was_write, was_mode, was_refresh}
 use Rattle.counts.specs.declared.CommandCounts.{CommandCounts}
-use Rattle.counts.specs.declared.CountsAnswer.{CountsAnswer}
-use Rattle.counts.specs.declared.CountsAnswer.TheVariants.{Counted, Refused}
+use Rattle.counts.specs.declared.Uncounted.{Uncounted}
 
 -- how many closed pairs have a property
 abbrev pub how_many : (ClosedPair → Bool) → List ClosedPair → ℕ
@@ -53,15 +53,19 @@ counts_of t words =
 abbrev pub no_counts : CommandCounts
 no_counts = record { reads = 0; writes = 0; modes = 0; refreshes = 0; desls = 0; clocks = record { 0 = 0 } }
 
+-- what a refused call answers: why, and no counts (RULES 7.2)
+abbrev pub uncounted : Refusal → Uncounted
+uncounted r = record { why = r; counts = no_counts }
+
 -- an answer in the paper's terms: 0 or the refusal's number, and the counts
 pub record Counting : Type 0 where
   pub number : ℕ
   pub counts : CommandCounts
 
 -- the answer of `count_commands`
-abbrev pub counting_outcome : CountsAnswer → Counting
-counting_outcome (Counted c) = record { number = 0; counts = c }
-counting_outcome (Refused r c) = record { number = refusal_number r; counts = c }
+abbrev pub counting_outcome : Result CommandCounts Uncounted → Counting
+counting_outcome (Ok c) = record { number = 0; counts = c }
+counting_outcome (Err u) = record { number = refusal_number u.why; counts = u.counts }
 
 -- these counts, or a refusal with counts that are all 0 (RULES 7.2)
 abbrev pub counting : Outcome CommandCounts → Counting

@@ -8,15 +8,13 @@ ghost use Rattle.turns.specs.OneTurn.{turn_outcome, turn_at};
 use command::Pair;
 use command::pins::{CS, PD, high};
 
-// What a turn takes, and the index behind it.
+// The words of a turn.
 #[derive(Clone, Copy)]
-pub enum TurnAnswer {
+pub enum TurnWords {
     // Both words of a pair.
-    Closed(Pair, usize),
+    Closed(Pair),
     // DESL, a word with PD low, or the first word of a pair that the trace does not close.
-    Single(u32, usize),
-    // No word is left.
-    End,
+    Single(u32),
 }
 
 // Whether a word opens a pair, where none is open before it.
@@ -26,21 +24,16 @@ pub fn opens_pair(word: u32) -> bool
     high(word, PD) & !high(word, CS)
 }
 
-// The turn from an index on, where no pair is open before the word there; where one is, the answer is as if none were.
-pub fn turn(words: &[u32], at: usize) -> TurnAnswer
+// The turn from an index on, where no pair is open before the word there, and the index behind it; none where no word is left. Where a pair
+// is open, the answer is as if none were.
+pub fn turn(words: &[u32], at: usize) -> Option<(TurnWords, usize)>
     ensures { turn_outcome at result ≡ turn_at words.now at }
 {
-    if words.len() <= at {
-        return TurnAnswer::End;
-    }
-    let first = words[at];
-    let next = at + 1;
-    if opens_pair(first) {
-        if next < words.len() {
-            let second = words[next];
-            let behind = next + 1;
-            return TurnAnswer::Closed(Pair { first, second }, behind);
+    match *words.get(at..)? {
+        [] => None,
+        [first, second, ..] if opens_pair(first) => {
+            Some((TurnWords::Closed(Pair { first, second }), at + 2))
         }
+        [first, ..] => Some((TurnWords::Single(first), at + 1)),
     }
-    TurnAnswer::Single(first, next)
 }

@@ -5,9 +5,9 @@ use Rattle.counts.proofs.ByTurns.{counts-by-turns}
 use Rattle.counts.proofs.count_commands.Goals as goal
 
 pub counts_of-requires : goal.counts_of-requires
-counts_of-requires c = (bl-bound c.args.config c.in-Accepted.timing (sym c.in-Accepted.ensures), c.if-words-le65536.true)
+counts_of-requires c = (bl-bound c.args.config c.in_ok-timing.timing (sym c.in_ok-timing.ensures), c.if-words-gt65536.false)
 
-pub returns-then-words-le65536 : goal.returns-then-words-le65536
-returns-then-words-le65536 c =
-    let short = le-leb _ 65536 c.if-words-le65536.true in
-    rw (c.counts_of.ensures, counts-by-turns c.in-Accepted.timing, ← c.in-Accepted.ensures, short)
+pub returns : goal.returns
+returns c =
+    let short = le-leb _ 65536 c.if-words-gt65536.false in
+    rw (c.counts_of.ensures, counts-by-turns c.in_ok-timing.timing, ← c.in_ok-timing.ensures, short)

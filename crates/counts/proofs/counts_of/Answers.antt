@@ -1,14 +1,23 @@
--- What the answer says of the turns that are left keeps the invariant.
+-- What the answer says of the turns that are left keeps the invariant; where no word is left, no turn is.
+use Rattle.std.proofs.Common.{refl}
 use Rattle.turns.proofs.Answered.{answered}
-use Rattle.counts.proofs.Tallying.{goes_on}
+use Rattle.counts.proofs.Tallying.{goes_on, ends}
 use Rattle.counts.proofs.counts_of.Goals as goal
 
-pub loop-pair-preserved-in-Closed : goal.loop-pair-preserved-in-Closed
-loop-pair-preserved-in-Closed c =
-    let y = c.loop-pair.invariant in
-    goes_on y (answered c.args.words.now c.loop-pair.at _ y.inside c.in-Closed.ensures) c.with_pair-counts.ensures
+pub loop-taken-preserved-in-Closed : goal.loop-taken-preserved-in-Closed
+loop-taken-preserved-in-Closed c =
+    let y = c.loop-taken.invariant in
+    let taken = rw c.in-Closed.is at c.in-Some.ensures in
+    goes_on y (answered c.args.words.now c.loop-taken.at _ y.inside taken) c.with_pair-counts.ensures
 
-pub loop-pair-preserved : goal.loop-pair-preserved
-loop-pair-preserved c =
-    let y = c.loop-pair.invariant in
-    goes_on y (answered c.args.words.now c.loop-pair.at _ y.inside c.in-Single.ensures) c.with_single-counts.ensures
+pub loop-taken-preserved : goal.loop-taken-preserved
+loop-taken-preserved c =
+    let y = c.loop-taken.invariant in
+    let taken = rw c.in-Single.is at c.in-Some.ensures in
+    goes_on y (answered c.args.words.now c.loop-taken.at _ y.inside taken) c.with_single-counts.ensures
+
+pub returns : goal.returns
+returns c =
+    let y = c.loop-taken.invariant in
+    let none = answered c.args.words.now c.loop-taken.at _ y.inside c.in_default.ensures in
+    ends y (none.ended refl)

@@ -3,8 +3,8 @@ use Rattle.std.proofs.Common.{◌-◌, length}
 use Rattle.counts.proofs.Tallying.{Tallying}
 use Rattle.counts.proofs.counts_of.Given as goal
 
-abbrev pub invariant-loop-pair : goal.invariant-loop-pair
-invariant-loop-pair l = Tallying l.timing l.words l.at l.counts
+abbrev pub invariant-loop-taken : goal.invariant-loop-taken
+invariant-loop-taken l = Tallying l.timing l.words l.at l.counts
 
-abbrev pub decreases-loop-pair : goal.decreases-loop-pair
-decreases-loop-pair l = length l.words - l.at
+abbrev pub decreases-loop-taken : goal.decreases-loop-taken
+decreases-loop-taken l = length l.words - l.at
