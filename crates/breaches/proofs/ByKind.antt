@@ -3,6 +3,7 @@ use Prim.Native.Nat.{ℕ, ◌+◌}
 use mathlib.Core.Path.{◌≡◌}
 use mathlib.Core.Bool.{Bool, true, false, cond, not, ◌&&◌, and-false, and-true}
 use mathlib.Core.List.{[], ◌∷◌}
+use native.Mathlib.Nat.{add-zero}
 use lib.ListN.{get_or}
 use Rattle.config.specs.declared.Timing.{Timing}
 use Rattle.command.specs.Pairs.{rda, lal}
@@ -10,7 +11,6 @@ use Rattle.reading.specs.Reading.{mode_wrong, lane_reserved}
 use Rattle.rules.specs.Rules.{lowest}
 use Rattle.rules.specs.Breaches.{near, bank_stamp, not_ready, too_close, busy, closing_breach}
 use Rattle.stamps.specs.declared.Timestamps.{Timestamps}
-use Rattle.breaches.proofs.Sums.{no_more}
 
 module _ (t : Timing) (s : Timestamps) (k first second : ℕ) where
   pub at-lal : {b5 b6 b7 b8 b9 b10 : Bool} → lal second ≡ true
@@ -29,9 +29,9 @@ module _ (t : Timing) (s : Timestamps) (k first second : ℕ) where
         e8,
         e9,
         e10,
-        no_more t.rc,
-        no_more t.rsc,
-        no_more t.refc,
+        add-zero t.rc,
+        add-zero t.rsc,
+        add-zero t.refc,
         l,
         and-false (rda first),
         and-false (not (rda first)),
@@ -51,9 +51,9 @@ module _ (t : Timing) (s : Timestamps) (k first second : ℕ) where
         e10,
         e11,
         e12,
-        no_more t.rsc,
-        no_more t.refc,
-        no_more t.window,
+        add-zero t.rsc,
+        add-zero t.refc,
+        add-zero t.window,
         l,
         and-false (rda first),
         and-false (not (rda first)),

@@ -1,3 +1,2 @@
 -- What the proofs of the functions have in common.
-pub mod Sums
 pub mod ByKind

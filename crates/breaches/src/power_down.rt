@@ -1,18 +1,11 @@
 // Power down: rule 2, by which PD goes low, and rule 13, by which the memory wakes.
-ghost use Rattle.std.specs.Prelude.{◌≡◌, ◌+◌};
-ghost use Rattle.rules.specs.Breaches.{near, must_stay_high, wrongly_low, selected_at_exit};
+ghost use Rattle.std.specs.Prelude.{◌≡◌};
+ghost use Rattle.rules.specs.Breaches.{must_stay_high, wrongly_low, selected_at_exit};
 
 use crate::near;
 use command::pins::{CS, PD, high};
 use config::Timing;
-use stamps::{Timestamps, is_exiting, is_powered_down};
-
-// The pair with this timestamp, if there was one, began less than so many clocks ago.
-fn began_near(clock: u32, stamp: u32, limit: u32) -> bool
-    ensures { result ≡ near (clock + 1) stamp limit }
-{
-    !(stamp == 0) & (clock as u64 + 1 < stamp as u64 + limit as u64)
-}
+use stamps::{Past, Timestamps, is_exiting, is_powered_down};
 
 // PD may not go low yet, by any timestamps: it is too soon after an earlier pair.
 pub fn must_stay_high(timing: Timing, stamps: Timestamps, clock: u32) -> bool
@@ -20,35 +13,31 @@ pub fn must_stay_high(timing: Timing, stamps: Timestamps, clock: u32) -> bool
 {
     let figures = timing.figures();
     let half = figures.bl / 2;
-    let refs = stamps.refs;
-    let after_read = began_near(clock, stamps.read, figures.rc);
-    let after_write = began_near(clock, stamps.write, figures.rc);
-    let after_mode = began_near(clock, stamps.mode, figures.rsc);
-    let after_refresh = began_near(clock, refs[0], figures.refc);
-    let read_data = near(clock, stamps.read, figures.cl, half);
-    let write_data = near(clock, stamps.write, figures.wl, 2);
+    let now = u64::from(clock);
+    // A pair that closed at c began at c - 1, and lies one clock further back.
+    let from_start = now + 1;
+    let after_read = near(from_start, stamps.read, figures.rc, 0);
+    let after_write = near(from_start, stamps.write, figures.rc, 0);
+    let after_mode = near(from_start, stamps.mode, figures.rsc, 0);
+    let after_refresh = near(from_start, stamps.refs[0], figures.refc, 0);
+    let read_data = near(now, stamps.read, figures.cl, half);
+    let write_data = near(now, stamps.write, figures.wl, 2);
     after_read | after_write | after_mode | after_refresh | read_data | write_data
 }
 
 // Rule 2: the word goes low and may not.
-pub(crate) fn wrongly_low(
-    timing: Timing,
-    stamps: Timestamps,
-    clock: u32,
-    first: u32,
-    word: u32,
-) -> bool
-    ensures { result ≡ wrongly_low timing stamps clock first word }
+pub(crate) fn wrongly_low(timing: Timing, past: Past, word: u32) -> bool
+    ensures { result ≡ wrongly_low timing past.stamps past.clock past.met word }
 {
-    let awake = high(word, PD);
-    if awake {
+    if high(word, PD) {
         return false;
     }
-    let powered_down = is_powered_down(first);
-    let exiting = is_exiting(first);
-    let opened = !high(first, CS);
+    let powered_down = is_powered_down(past.met);
+    let exiting = is_exiting(past.met);
+    let opened = !high(past.met, CS);
     let selected = !high(word, CS);
-    !powered_down & (opened | exiting | selected | must_stay_high(timing, stamps, clock))
+    let too_soon = must_stay_high(timing, past.stamps, past.clock);
+    !powered_down & (opened | exiting | selected | too_soon)
 }
 
 // Rule 13: a wake-up word with CS low.
@@ -57,6 +46,5 @@ pub(crate) fn selected_at_exit(first: u32, word: u32) -> bool
 {
     let powered_down = is_powered_down(first);
     let exiting = is_exiting(first);
-    let awake = high(word, PD);
-    (powered_down | exiting) & (awake & !high(word, CS))
+    (powered_down | exiting) & (high(word, PD) & !high(word, CS))
 }

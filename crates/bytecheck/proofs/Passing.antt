@@ -20,7 +20,6 @@ use Rattle.rules.specs.Breaches.{near, bank_stamp, too_close, deadline, overdue,
 use Rattle.rules.specs.Verdict.{Judgement}
 use Rattle.stamps.specs.declared.Timestamps.{Timestamps}
 use Rattle.breaches.proofs.ByKind.{at-lal}
-use Rattle.breaches.proofs.Sums.{no_more}
 use Rattle.rules.proofs.Words.{run, run-passes}
 use Rattle.bytecheck.specs.Passed.{Passes, Passed, none, more}
 use Rattle.bytecheck.specs.Quick.{Settled, Quiet}
@@ -55,10 +54,10 @@ lal-kept t s k first w kept =
     let settled = kept.settled in
     sym
     (at-lal t s k first w (high-lal w kept.driven) (sym kept.unreserved) (sym settled.ready)
-    (rw (← no_more t.rc) at (sym kept.rested))
+    (rw (← add-zero t.rc) at (sym kept.rested))
     (sym kept.spaced)
-    (rw (← no_more t.rsc) at (sym settled.after_mode))
-    (rw (← no_more t.refc) at (sym settled.after_refresh)))
+    (rw (← add-zero t.rsc) at (sym settled.after_mode))
+    (rw (← add-zero t.refc) at (sym settled.after_refresh)))
 
 -- the place after the LAL word of a read or write of a bank, with these last ones
 abbrev pub accessed : ℕ → Place → ℕ → ℕ → Place

@@ -4,8 +4,9 @@ use Rattle.breaches.proofs.access_breach.Goals as goal
 
 pub returns : goal.returns
 returns c =
-    let a = c.args in
+    let past = c.args.past in
     let figures = c.figures-figures.ensures in
+    let clock = c.from-clock.ensures in
     rw (
       c.choose-4.ensures,
       c.choose-3.ensures,
@@ -14,10 +15,10 @@ returns c =
       c.choose-from_9.ensures,
       c.choose.ensures,
     )
-    (at-lal a.timing a.stamps a.clock a.first a.second c.requires
+    (at-lal c.args.timing past.stamps past.clock past.met c.args.word c.requires
     c.lane_reserved-reserved.ensures
     c.unready-unready.ensures
-    (rw (c.bank-bank.ensures.0, figures) at c.near-same_bank.ensures)
-    (rw c.high-rda.ensures at c.too_close-too_close.ensures)
-    (rw figures at c.near-after_mode.ensures)
-    (rw figures at c.near-after_refresh.ensures))
+    (rw (clock, c.bank-bank.ensures.0, figures) at c.near-same_bank.ensures)
+    c.too_close-too_close.ensures
+    (rw (clock, figures) at c.near-after_mode.ensures)
+    (rw (clock, figures) at c.near-after_refresh.ensures))

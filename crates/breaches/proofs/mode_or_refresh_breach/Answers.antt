@@ -4,8 +4,9 @@ use Rattle.breaches.proofs.mode_or_refresh_breach.Goals as goal
 
 pub returns : goal.returns
 returns c =
-    let a = c.args in
+    let past = c.args.past in
     let figures = c.figures-figures.ensures in
+    let clock = c.from-clock.ensures in
     rw (
       c.choose-3.ensures,
       c.choose-from_9.ensures,
@@ -14,9 +15,9 @@ returns c =
       c.choose.ensures,
       c.high-rda.ensures,
     )
-    (at_other a.timing a.stamps a.clock a.first a.second c.requires
+    (at_other c.args.timing past.stamps past.clock past.met c.args.word c.requires
     c.mode_wrong-wrong.ensures
-    (rw figures at c.near-after_mode.ensures)
-    (rw figures at c.near-after_refresh.ensures)
-    (rw c.high-rda.ensures at c.busy-busy.ensures)
-    (rw figures at c.near-in_window.ensures))
+    (rw (clock, figures) at c.near-after_mode.ensures)
+    (rw (clock, figures) at c.near-after_refresh.ensures)
+    c.busy-busy.ensures
+    (rw (clock, figures) at c.near-in_window.ensures))
