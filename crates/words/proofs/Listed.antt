@@ -7,9 +7,10 @@ use native.Mathlib.Omega.{arith}
 use borrow.Author.Tests.{lt-ltb, ltb-true}
 use lib.Dec.{ltb}
 use lib.ListN.{length, get_or, take, drop, length-take, length-drop}
-use lib.Seq.{take_all, get_or-take, get_or-drop, drop-drop}
-use native.Mathlib.Nat.{add-zero}
-use Rattle.words.specs.Words.{word_by, words_of, first_word, word_at, pair_to, PairTo}
+use lib.Seq.{get_or-take, get_or-drop, drop-drop}
+use Rattle.std.specs.Int.{w32, from_le_bytes}
+use Rattle.std.specs.Simd.{first_chunks}
+use Rattle.words.specs.Words.{word_by, words_of, word_at, pair_to, PairTo}
 
 pub words-length : (bytes : List ℕ) → length (words_of bytes) ≡ length bytes / 4
 words-length [] = refl
@@ -44,22 +45,25 @@ listed (a ∷ b ∷ c ∷ d ∷ rest) (suc i) h =
 pub word-listed : (bytes : List ℕ) (i : ℕ) → i < length bytes / 4 → word_at bytes i ≡ get_or (words_of bytes) i 0
 word-listed bytes i h = rw (lt-ltb i (length bytes / 4) h) (sym (listed bytes i h))
 
--- the first word of the bytes from an index on
-pub first-of-part : (bytes : List ℕ) (i : ℕ) → i < length bytes / 4
-    → first_word (take (length bytes - 4 * i) (drop (4 * i) bytes)) ≡ word_at bytes i
-first-of-part bytes i h =
-    rw (lt-ltb i (length bytes / 4) h, take_all (length bytes - 4 * i) (drop (4 * i) bytes) (omega (arith, length-drop (4 * i) bytes)))
-    (simp (get_or-drop, add-zero))
+-- one of the arrays of four bytes
+chunk : (k : ℕ) (bytes : List ℕ) (i : ℕ) (d : List ℕ) → i < k → get_or (first_chunks 4 k bytes) i d ≡ take 4 (drop (4 * i) bytes)
+chunk zero bytes i d h = absurd (omega arith)
+chunk (suc k) bytes zero d h = refl
+chunk (suc k) bytes (suc i) d h =
+    let at : 4 + 4 * i ≡ 4 * suc i = omega arith in
+    rw (← at, ← drop-drop (4 * i) 4 bytes) (chunk k (drop 4 bytes) i d (omega arith))
 
--- and of those four behind
-pub second-of-part : (bytes : List ℕ) (i : ℕ) → 0 < i → i < length bytes / 4
-    → let rest = take (length bytes - 4 * (i - 1)) (drop (4 * (i - 1)) bytes) in
-    first_word (take (length rest - 4) (drop 4 rest)) ≡ word_at bytes i
-second-of-part bytes i pos h =
-    let at : 4 * (i - 1) + 4 ≡ 4 * i = omega arith in
-    let all = take_all (length bytes - 4 * (i - 1)) (drop (4 * (i - 1)) bytes) (omega (arith, length-drop (4 * (i - 1)) bytes)) in
-    let left : length (drop (4 * (i - 1)) bytes) - 4 ≡ length bytes - 4 * i = omega (arith, length-drop (4 * (i - 1)) bytes) in
-    rw (all, left, drop-drop 4 (4 * (i - 1)) bytes, at) (first-of-part bytes i h)
+-- is the word there
+pub chunk-word : (bytes : List ℕ) (i : ℕ) (d : List ℕ) {chunks : List (List ℕ)} → i < length bytes / 4
+    → chunks ≡ first_chunks 4 (length bytes / 4) bytes → from_le_bytes w32 (get_or chunks i d) ≡ word_at bytes i
+chunk-word bytes i d h is =
+    let part = drop (4 * i) bytes in
+    let at : (j : ℕ) → j < 4 → get_or (take 4 part) j 0 ≡ get_or bytes (4 * i + j) 0 =
+    λ j small. get_or-take 4 part j 0 small ∙ get_or-drop (4 * i) bytes j 0 in
+    let start : get_or (take 4 part) 0 0 ≡ get_or bytes (4 * i) 0 = at 0 (omega arith) ∙ place bytes (4 * i + 0) (4 * i) (omega arith) in
+    rw
+    (is, chunk (length bytes / 4) bytes i d h, lt-ltb i (length bytes / 4) h)
+    (rw (start, at 1 (omega arith), at 2 (omega arith), at 3 (omega arith)))
 
 -- the two words of a pair, where they are both there, and 0 where they are not
 pub pair-there : (bytes : List ℕ) (i : ℕ) → 0 < i → i < length bytes / 4 → pair_to bytes i ≡ word_at bytes (i - 1) + word_at bytes i * 2 ^ 32

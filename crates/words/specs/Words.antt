@@ -13,10 +13,6 @@ words_of (a ∷ b ∷ []) = []
 words_of (a ∷ b ∷ c ∷ []) = []
 words_of (a ∷ b ∷ c ∷ d ∷ rest) = word_by a b c d ∷ words_of rest
 
--- the word of the first four bytes
-abbrev pub first_word : List ℕ → ℕ
-first_word bytes = word_by (get_or bytes 0 0) (get_or bytes 1 0) (get_or bytes 2 0) (get_or bytes 3 0)
-
 -- the word at an index, counted in words; 0 past the last whole word
 abbrev pub word_at : List ℕ → ℕ → ℕ
 word_at bytes i =
