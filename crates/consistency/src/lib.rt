@@ -2,40 +2,37 @@
 #![tactic(auto)]
 
 ghost use Rattle.std.specs.Prelude.{◌≡◌};
-ghost use Rattle.consistency.specs.Consistency.{eight_before, stamps_before, words_before, clock_fits};
+ghost use Rattle.consistency.specs.Consistency.{before, eight_before, stamps_before, words_before, clock_fits};
 
 use basics::{LIMIT, choose};
 use command::pins::{CS, high};
-use stamps::{Timestamps, is_exiting, is_powered_down};
+use stamps::{Past, is_exiting, is_powered_down};
 
-fn eight_before(clock: u32, stamps: [u32; 8]) -> bool
-    ensures { result ≡ eight_before clock stamps }
+// An event, if it is remembered, is before the clock.
+fn before(clock: u32, event: u32) -> bool
+    ensures { result ≡ before clock event }
 {
-    ((stamps[0] == 0) | (stamps[0] < clock))
-        & ((stamps[1] == 0) | (stamps[1] < clock))
-        & ((stamps[2] == 0) | (stamps[2] < clock))
-        & ((stamps[3] == 0) | (stamps[3] < clock))
-        & ((stamps[4] == 0) | (stamps[4] < clock))
-        & ((stamps[5] == 0) | (stamps[5] < clock))
-        & ((stamps[6] == 0) | (stamps[6] < clock))
-        & ((stamps[7] == 0) | (stamps[7] < clock))
+    (event == 0) | (event < clock)
+}
+
+fn eight_before(clock: u32, events: [u32; 8]) -> bool
+    ensures { result ≡ eight_before clock events }
+{
+    events.iter().all(|&event| before(clock, event))
 }
 
 // Every event that is remembered is before the clock.
-fn stamps_before(clock: u32, stamps: Timestamps) -> bool
-    ensures { result ≡ stamps_before clock stamps }
+fn stamps_before(past: Past) -> bool
+    ensures { result ≡ stamps_before past.clock past.stamps }
 {
-    let banks = stamps.banks;
-    let refs = stamps.refs;
-    let in_banks = eight_before(clock, banks);
-    let in_refs = eight_before(clock, refs);
-    ((stamps.extended == 0) | (stamps.extended < clock))
-        & ((stamps.regular == 0) | (stamps.regular < clock))
-        & ((stamps.mode == 0) | (stamps.mode < clock))
-        & ((stamps.read == 0) | (stamps.read < clock))
-        & ((stamps.write == 0) | (stamps.write < clock))
-        & in_banks
-        & in_refs
+    let Past { clock, stamps, .. } = past;
+    before(clock, stamps.extended)
+        && before(clock, stamps.regular)
+        && before(clock, stamps.mode)
+        && before(clock, stamps.read)
+        && before(clock, stamps.write)
+        && eight_before(clock, stamps.banks)
+        && eight_before(clock, stamps.refs)
 }
 
 // How many words must stand before one that meets this.
@@ -48,9 +45,8 @@ fn words_before(first: u32) -> u32
 }
 
 // The clock is within its limit, and nothing that is remembered contradicts it (otherwise 19).
-pub fn clock_fits(clock: u32, first: u32, stamps: Timestamps) -> bool
-    ensures { result ≡ clock_fits clock first stamps }
+pub fn past_fits(past: Past) -> bool
+    ensures { result ≡ clock_fits past.clock past.met past.stamps }
 {
-    let remembered = stamps_before(clock, stamps);
-    (clock <= LIMIT) & remembered & (words_before(first) <= clock)
+    past.clock <= LIMIT && stamps_before(past) && words_before(past.met) <= past.clock
 }
