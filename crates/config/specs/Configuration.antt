@@ -144,3 +144,25 @@ wired_of grade cl bl organisation period rbd rwd wrd rsc refc wiring =
 -- the configuration that the first ten make: without its wiring a sheet has eight banks (RULES 1.6)
 abbrev pub config_of : ℕ → ℕ → ℕ → ℕ → ℕ → ℕ → ℕ → ℕ → ℕ → ℕ → Config
 config_of grade cl bl organisation period rbd rwd wrd rsc refc = wired_of grade cl bl organisation period rbd rwd wrd rsc refc 8
+
+-- the configuration of a list of eleven numbers in the order of RULES 1.1
+abbrev pub sheet_of : List ℕ → Config
+sheet_of s =
+    wired_of (get_or s 0 0) (get_or s 1 0) (get_or s 2 0) (get_or s 3 0) (get_or s 4 0) (get_or s 5 0) (get_or s 6 0) (get_or s 7 0) (get_or s 8 0)
+    (get_or s 9 0) (get_or s 10 0)
+
+-- the eleven numbers of a sheet, in the order of RULES 1.1
+abbrev pub numbers_of : Config → List ℕ
+numbers_of c =
+    c.grade
+    ∷ c.cl
+    ∷ c.bl
+    ∷ c.organisation
+    ∷ c.period.0
+    ∷ c.rbd.0
+    ∷ c.rwd.0
+    ∷ c.wrd.0
+    ∷ c.rsc.0
+    ∷ c.refc.0
+    ∷ c.wiring
+    ∷ []

@@ -2,6 +2,7 @@
 #![tactic(auto)]
 
 mod figures;
+mod numbers;
 mod stored;
 mod wired;
 
