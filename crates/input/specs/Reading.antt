@@ -1,10 +1,11 @@
 -- What is known of the bytes read. Which bytes come, and when a read fails, no contract of the system's calls says.
-use Rattle.std.specs.Prelude.{ℕ, ◌<◌, ◌≤◌, ◌≡◌, Bool, true, false, List, length, take, ℤ, pos, negsuc}
+use Rattle.std.specs.Prelude.{ℕ, ◌<◌, ◌≤◌, ◌≡◌, Bool, true, List, length, take, Result, Ok, Err}
+use Rattle.input.specs.declared.ReadFailed.{ReadFailed}
 
--- a call that fails answers a negative number
-abbrev pub negative : ℤ → Bool
-negative (pos k) = false
-negative (negsuc k) = true
+-- how many bytes were read, of all or before the read that failed
+abbrev pub count_of : Result ℕ ReadFailed → ℕ
+count_of (Ok count) = count
+count_of (Err e) = e.count
 
 -- `&xs[..n]` is in bounds and has n bytes
 abbrev pub IsPrefixLen : ℕ → List ℕ → Type 0

@@ -1,46 +1,38 @@
 // Standard input, read to its end.
 #![tactic(auto)]
 
-ghost use Rattle.std.specs.Prelude.{◌≡◌};
-ghost use Rattle.input.specs.Reading.{negative, ReadPromised};
+ghost use Rattle.std.specs.Prelude.{is_err};
+ghost use Rattle.input.specs.Reading.{count_of, ReadPromised};
 
+use std::error::Error;
+use std::fmt;
 use std::io::{Read, Stdin};
 
-// How many bytes were read, and whether a read failed: then they are not the whole input.
-#[derive(Clone, Copy)]
-pub struct Input {
+// A read failed behind so many bytes: they are not the whole input.
+#[derive(Clone, Copy, Debug, PartialEq, Eq)]
+pub struct ReadFailed {
     pub count: usize,
-    pub failed: bool,
 }
 
-// The answer of a read that failed.
-fn failed(got: isize) -> bool
-    ensures { result ≡ negative got }
-{
-    got < 0
+impl fmt::Display for ReadFailed {
+    fn fmt<W: fmt::Write>(&self, f: &mut fmt::Formatter<W>) -> fmt::Result {
+        write!(f, "a read failed behind {} bytes", self.count)
+    }
 }
 
-// Reads until the buffer is full, the input ends or a read fails.
-pub fn read(mut stdin: Stdin, buffer: &mut [u8]) -> Input
-    ensures { ReadPromised result.count result.failed buffer.new }
+impl Error for ReadFailed {}
+
+// Reads until the buffer is full, the input ends or a read fails; how many bytes were read.
+pub fn read(mut stdin: Stdin, buffer: &mut [u8]) -> Result<usize, ReadFailed>
+    ensures { ReadPromised (count_of result) (is_err result) buffer.new }
 {
-    let mut count: usize = 0;
+    let mut count = 0;
     while count < buffer.len() {
-        // How many bytes came; a negative number where the read failed.
-        let got = match stdin.read(&mut buffer[count..]) {
-            Ok(more) => more as isize,
-            Err(_) => -1,
-        };
-        if got <= 0 {
-            return Input {
-                count,
-                failed: failed(got),
-            };
+        match stdin.read(&mut buffer[count..]) {
+            Ok(0) => break,
+            Ok(more) => count += more,
+            Err(_) => return Err(ReadFailed { count }),
         }
-        count += got as usize;
     }
-    Input {
-        count,
-        failed: false,
-    }
+    Ok(count)
 }
