@@ -3,16 +3,16 @@
 
 mod power_down;
 
-ghost use Rattle.std.specs.Prelude.{◌≡◌, true, false, ◌+◌, get_or};
+ghost use Rattle.std.specs.Prelude.{◌≡◌, true, false, cond, ◌+◌, get_or};
 ghost use Rattle.command.specs.Pairs.{rda, lal};
+ghost use Rattle.early.specs.Answers.{rule_number, breach_number};
 ghost use Rattle.rules.specs.Breaches.{near, not_ready, too_close, busy, closing_breach, word_breach};
 
-use basics::choose;
 use command::Pair;
 use command::address::bank;
 use command::pins::{CS, FN, high};
 use config::Timing;
-use early::{deadline, early_breach};
+use early::{Rule, deadline, early_breach};
 pub use power_down::must_stay_high;
 use power_down::{selected_at_exit, wrongly_low};
 use reading::{lane_reserved, mode_wrong};
@@ -64,10 +64,17 @@ fn busy(timing: Timing, past: Past) -> bool
     (after_read | after_write) | rda & read_data | rda & write_data
 }
 
+// The rule, where its test holds, and otherwise what is found behind it.
+fn first_of(test: bool, rule: Rule, rest: Option<Rule>) -> Option<Rule>
+    ensures { breach_number result ≡ cond test (rule_number rule) (breach_number rest) }
+{
+    if test { Some(rule) } else { rest }
+}
+
 // Rules 4 to 12 at the LAL word of a read or write.
-fn access_breach(timing: Timing, past: Past, word: u32) -> u32
+fn access_breach(timing: Timing, past: Past, word: u32) -> Option<Rule>
     requires { lal word ≡ true }
-    ensures { result ≡ closing_breach timing past.stamps past.clock past.met word }
+    ensures { breach_number result ≡ closing_breach timing past.stamps past.clock past.met word }
 {
     let figures = timing.figures();
     let clock = u64::from(past.clock);
@@ -82,16 +89,28 @@ fn access_breach(timing: Timing, past: Past, word: u32) -> u32
     let too_close = too_close(timing, past);
     let after_mode = near(clock, past.stamps.mode, figures.rsc, 0);
     let after_refresh = near(clock, past.stamps.refs[0], figures.refc, 0);
-    // The lowest number from 9 on, and from 7 on.
-    let from_9 = choose(after_mode, 9, choose(after_refresh, 10, 0));
-    let from_7 = choose(same_bank, 7, choose(too_close, 8, from_9));
-    choose(reserved, 5, choose(unready, 6, from_7))
+    // The lowest from 9 on, and from 7 on.
+    let from_9 = first_of(
+        after_mode,
+        Rule::AfterMode,
+        first_of(after_refresh, Rule::AfterRefresh, None),
+    );
+    let from_7 = first_of(
+        same_bank,
+        Rule::SameBank,
+        first_of(too_close, Rule::TooClose, from_9),
+    );
+    first_of(
+        reserved,
+        Rule::ReservedLane,
+        first_of(unready, Rule::NotReady, from_7),
+    )
 }
 
 // Rules 4 to 12 at an MRS or REF word.
-fn mode_or_refresh_breach(timing: Timing, past: Past, word: u32) -> u32
+fn mode_or_refresh_breach(timing: Timing, past: Past, word: u32) -> Option<Rule>
     requires { lal word ≡ false }
-    ensures { result ≡ closing_breach timing past.stamps past.clock past.met word }
+    ensures { breach_number result ≡ closing_breach timing past.stamps past.clock past.met word }
 {
     let figures = timing.figures();
     let clock = u64::from(past.clock);
@@ -105,14 +124,22 @@ fn mode_or_refresh_breach(timing: Timing, past: Past, word: u32) -> u32
     let after_refresh = near(clock, past.stamps.refs[0], figures.refc, 0);
     let busy = busy(timing, past);
     let in_window = near(clock, past.stamps.refs[7], figures.window, 0);
-    let from_11 = choose(busy, 11, choose(!rda & in_window, 12, 0));
-    let from_9 = choose(after_mode, 9, choose(after_refresh, 10, from_11));
-    choose(wrong, 4, from_9)
+    let from_11 = first_of(
+        busy,
+        Rule::Busy,
+        first_of(!rda & in_window, Rule::RefreshWindow, None),
+    );
+    let from_9 = first_of(
+        after_mode,
+        Rule::AfterMode,
+        first_of(after_refresh, Rule::AfterRefresh, from_11),
+    );
+    first_of(wrong, Rule::WrongMode, from_9)
 }
 
 // Rules 4 to 12 at the closing word of a pair.
-fn closing_breach(timing: Timing, past: Past, word: u32) -> u32
-    ensures { result ≡ closing_breach timing past.stamps past.clock past.met word }
+fn closing_breach(timing: Timing, past: Past, word: u32) -> Option<Rule>
+    ensures { breach_number result ≡ closing_breach timing past.stamps past.clock past.met word }
 {
     if high(word, CS) {
         access_breach(timing, past, word)
@@ -121,18 +148,18 @@ fn closing_breach(timing: Timing, past: Past, word: u32) -> u32
     }
 }
 
-// The lowest breach number at a word, or 0, by any past.
-pub fn word_breach(timing: Timing, past: Past, word: u32) -> u32
-    ensures { result ≡ word_breach timing past.stamps past.clock past.met word }
+// The lowest rule that a word breaches, by any past.
+pub fn word_breach(timing: Timing, past: Past, word: u32) -> Option<Rule>
+    ensures { breach_number result ≡ word_breach timing past.stamps past.clock past.met word }
 {
     let figures = timing.figures();
     let last = deadline(figures.refi, past.stamps.refs);
     let low = wrongly_low(timing, past, word);
     let early = early_breach(low, last, past.clock, word);
-    if early != 0 {
+    if early.is_some() {
         early
     } else if high(past.met, CS) {
-        choose(selected_at_exit(past.met, word), 13, 0)
+        first_of(selected_at_exit(past.met, word), Rule::SelectedAtExit, None)
     } else {
         closing_breach(timing, past, word)
     }

@@ -1,41 +1,51 @@
-// Rules 1 to 3, which every word is held to.
+// The rules by their numbers, and rules 1 to 3, which every word is held to.
 #![tactic(auto)]
+
+mod rule;
 
 ghost use Rattle.std.specs.Prelude.{◌≡◌, [], ◌∷◌};
 ghost use Rattle.rules.specs.Rules.{lowest};
 ghost use Rattle.rules.specs.Breaches.{deadline, early_breach};
+ghost use Rattle.early.specs.Answers.{breach_number, deadline_number};
 
-// The number of the first of rules 1 to 3 whose test holds, or 0.
-fn lowest_early(stray: bool, low: bool, overdue: bool) -> u32
-    ensures { result ≡ lowest 1 (stray ∷ low ∷ overdue ∷ []) }
+pub use rule::Rule;
+
+// The first of rules 1 to 3 whose test holds.
+fn lowest_early(stray: bool, low: bool, overdue: bool) -> Option<Rule>
+    ensures { breach_number result ≡ lowest 1 (stray ∷ low ∷ overdue ∷ []) }
 {
     if stray {
-        return 1;
+        Some(Rule::StrayBit)
+    } else if low {
+        Some(Rule::LowPd)
+    } else if overdue {
+        Some(Rule::RefreshOverdue)
+    } else {
+        None
     }
-    if low {
-        return 2;
-    }
-    if overdue { 3 } else { 0 }
 }
 
 // The last clock that rule 3 allows, by D and the last eight REF words, newest first: if m is the highest place that is not 0, m × D after
-// the REF word there. 0 where all are 0, and any clock is allowed.
-pub fn deadline(refi: u32, refs: [u32; 8]) -> u64
-    ensures { result ≡ deadline refi refs }
+// the REF word there. None where all are 0, and any clock is allowed.
+pub fn deadline(refi: u32, refs: [u32; 8]) -> Option<u64>
+    ensures { deadline_number result ≡ deadline refi refs }
 {
     for i in (0..8).rev() {
         if refs[i] != 0 {
-            return u64::from(refs[i]) + (i as u64 + 1) * u64::from(refi);
+            return Some(u64::from(refs[i]) + (i as u64 + 1) * u64::from(refi));
         }
     }
-    0
+    None
 }
 
-// The lowest of rules 1 to 3 that a word breaches, or 0. `low` says whether it breaches rule 2, and `last` is the last clock that rule 3
-// allows, or 0 where it allows any.
-pub fn early_breach(low: bool, last: u64, clock: u32, word: u32) -> u32
-    ensures { result ≡ early_breach low last clock word }
+// The lowest of rules 1 to 3 that a word breaches. `low` says whether it breaches rule 2, and `last` is the last clock that rule 3 allows,
+// if it does not allow any.
+pub fn early_breach(low: bool, last: Option<u64>, clock: u32, word: u32) -> Option<Rule>
+    ensures { breach_number result ≡ early_breach low (deadline_number last) clock word }
 {
-    let overdue = (last != 0) & (last < u64::from(clock));
+    let overdue = match last {
+        Some(last) => (last != 0) & (last < u64::from(clock)),
+        None => false,
+    };
     lowest_early(0x100000 <= word, low, overdue)
 }

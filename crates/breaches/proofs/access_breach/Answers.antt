@@ -8,12 +8,12 @@ returns c =
     let figures = c.figures-figures.ensures in
     let clock = c.from-clock.ensures in
     rw (
-      c.choose-4.ensures,
-      c.choose-3.ensures,
-      c.choose-from_7.ensures,
-      c.choose-2.ensures,
-      c.choose-from_9.ensures,
-      c.choose.ensures,
+      c.first_of-4.ensures,
+      c.first_of-3.ensures,
+      c.first_of-from_7.ensures,
+      c.first_of-2.ensures,
+      c.first_of-from_9.ensures,
+      c.first_of.ensures,
     )
     (at-lal c.args.timing past.stamps past.clock past.met c.args.word c.requires
     c.lane_reserved-reserved.ensures

@@ -8,11 +8,11 @@ returns c =
     let figures = c.figures-figures.ensures in
     let clock = c.from-clock.ensures in
     rw (
-      c.choose-3.ensures,
-      c.choose-from_9.ensures,
-      c.choose-2.ensures,
-      c.choose-from_11.ensures,
-      c.choose.ensures,
+      c.first_of-3.ensures,
+      c.first_of-from_9.ensures,
+      c.first_of-2.ensures,
+      c.first_of-from_11.ensures,
+      c.first_of.ensures,
       c.high-rda.ensures,
     )
     (at_other c.args.timing past.stamps past.clock past.met c.args.word c.requires
