@@ -1,8 +1,10 @@
 -- What a step of the checker does, for every state there is (RULES 5.4).
-use Rattle.std.specs.Prelude.{ℕ, ◌+◌, Bool, cond, eqb, ltb}
+use Rattle.std.specs.Prelude.{ℕ, ◌+◌, Bool, cond, eqb, ltb, Option, None, Some, Result, Ok, Err}
 use Rattle.command.specs.Pairs.{desl}
 use Rattle.basics.specs.Outcome.{Outcome, value, refused}
 use Rattle.basics.specs.Numbers.{refusal_number, limit}
+use Rattle.basics.specs.Answers.{outcome_by}
+use Rattle.basics.specs.declared.refusal.Refusal.{Refusal}
 use Rattle.config.specs.Configuration.{timing_of}
 use Rattle.config.specs.declared.Config.{Config}
 use Rattle.config.specs.declared.Timing.{Timing}
@@ -10,16 +12,18 @@ use Rattle.rules.specs.Verdict.{Judgement, accepted, breach}
 use Rattle.stamps.specs.Stamps.{next_stamps, next_met, never}
 use Rattle.rules.specs.Breaches.{word_breach}
 use Rattle.consistency.specs.Consistency.{clock_fits}
+use Rattle.checker.specs.declared.checker.Breach.{Breach}
 use Rattle.checker.specs.declared.checker.Checker.{Checker}
 use Rattle.checker.specs.declared.checker.Stepped.{Stepped}
-use Rattle.checker.specs.declared.checker.Verdict.{Verdict}
-use Rattle.checker.specs.declared.checker.Verdict.TheVariants.{Accepted, InBreach, Refused}
 
--- what an answer is in the paper's terms; of a step, accepted says that the word passed
-abbrev pub verdict_outcome : Verdict → Outcome Judgement
-verdict_outcome Accepted = value accepted
-verdict_outcome (InBreach b) = value (breach b.clock b.number)
-verdict_outcome (Refused r) = refused (refusal_number r)
+-- what a word or a trace that is not refused comes to in the paper's terms: accepted with no breach; of a word that says that it passed
+abbrev pub judgement_of : Option Breach → Judgement
+judgement_of None = accepted
+judgement_of (Some b) = breach b.clock b.number
+
+-- what a verdict is in the paper's terms
+abbrev pub verdict_outcome : Result (Option Breach) Refusal → Outcome Judgement
+verdict_outcome r = outcome_by judgement_of r
 
 -- a step's answer, and the state that it leaves
 pub record Step : Type 0 where
@@ -65,6 +69,11 @@ judged t s w =
 -- a refusal leaves the state unchanged (RULES 7.2)
 abbrev pub refusing : Checker → ℕ → Step
 refusing s n = record { outcome = refused n; after = s }
+
+-- a step that is not refused, or else the refusal, as what a step on the state s returns
+abbrev pub tried : Checker → Result Stepped Refusal → Step
+tried s (Ok r) = stepped r
+tried s (Err r) = refusing s (refusal_number r)
 
 -- refused by n, unless the test holds
 abbrev pub step_if : Bool → ℕ → Checker → Step → Step

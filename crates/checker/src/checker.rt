@@ -1,27 +1,18 @@
 // The checker (the paper's examiner): a state that takes one word after the other.
 ghost use Rattle.std.specs.Prelude.{◌≡◌, ◌<◌};
-ghost use Rattle.checker.specs.Steps.{fresh, stepped, judged, step_by, step_of};
-ghost use Rattle.basics.specs.Outcome.{value};
+ghost use Rattle.checker.specs.Steps.{fresh, stepped, tried, judged, step_of};
 
 use basics::{LIMIT, Refusal};
 use breaches::word_breach;
-use config::{Config, Timing, TimingAnswer};
-use consistency::clock_fits;
-use stamps::{DESL, Timestamps, next_met};
+use config::{Config, Timing};
+use consistency::past_fits;
+use stamps::{Past, Timestamps, next_met};
 
 // The clock and the number of a breach; number 0 where there is none.
-#[derive(Clone, Copy)]
+#[derive(Clone, Copy, Debug, PartialEq, Eq)]
 pub struct Breach {
     pub clock: u32,
     pub number: u32,
-}
-
-// What a word or a trace comes to: accepted, in breach, or refused.
-#[derive(Clone, Copy)]
-pub enum Verdict {
-    Accepted,
-    InBreach(Breach),
-    Refused(Refusal),
 }
 
 #[derive(Clone, Copy)]
@@ -36,9 +27,10 @@ pub struct Checker {
     pub breach: Breach,
 }
 
+// What a step answers, and the checker that it leaves. The verdict is the word's breach, None if the word passes, or a refusal.
 #[derive(Clone, Copy)]
 pub struct Stepped {
-    pub verdict: Verdict,
+    pub verdict: Result<Option<Breach>, Refusal>,
     pub checker: Checker,
 }
 
@@ -47,11 +39,12 @@ impl Checker {
     pub fn fresh(config: Config) -> Checker
         ensures { result ≡ fresh config }
     {
+        let Past { clock, met, stamps } = Past::start();
         Checker {
             config,
-            clock: 0,
-            met: DESL,
-            stamps: Timestamps::never(),
+            clock,
+            met,
+            stamps,
             breach: Breach {
                 clock: 0,
                 number: 0,
@@ -59,77 +52,71 @@ impl Checker {
         }
     }
 
+    // What it keeps of the words before.
+    pub fn past(self) -> Past
+        ensures { result ≡ record { clock = self.clock; met = self.met; stamps = self.stamps } }
+    {
+        Past {
+            clock: self.clock,
+            met: self.met,
+            stamps: self.stamps,
+        }
+    }
+
     fn judged(self, timing: Timing, word: u32) -> Stepped
         requires { self.clock < 16777216 }
         ensures { stepped result ≡ judged timing self word }
     {
-        let config = self.config;
-        let stamps = self.stamps;
-        let breach = self.breach;
-        let clock = self.clock;
-        let first = self.met;
-        let number = word_breach(timing, stamps, clock, first, word);
+        let figures = timing.figures();
+        let number = word_breach(timing, self.past(), word);
         if number == 0 {
-            let figures = timing.figures();
-            let four = figures.four;
             return Stepped {
-                verdict: Verdict::Accepted,
+                verdict: Ok(None),
                 checker: Checker {
-                    config,
-                    clock: clock + 1,
-                    met: next_met(first, word),
-                    stamps: stamps.after(four, clock, first, word),
-                    breach,
+                    clock: self.clock + 1,
+                    met: next_met(self.met, word),
+                    stamps: self.stamps.after(figures.four, self.clock, self.met, word),
+                    ..self
                 },
             };
         }
-        let found = Breach { clock, number };
+        let breach = Breach {
+            clock: self.clock,
+            number,
+        };
         Stepped {
-            verdict: Verdict::InBreach(found),
-            checker: Checker {
-                config,
-                clock,
-                met: first,
-                stamps,
-                breach: found,
-            },
+            verdict: Ok(Some(breach)),
+            checker: Checker { breach, ..self },
         }
     }
 
-    fn refused(self, why: Refusal) -> Stepped
-        ensures { result ≡ record { verdict = Verdict.Refused why; checker = self } }
+    // A step that is not refused, or the refusal.
+    fn try_step(self, word: u32) -> Result<Stepped, Refusal>
+        ensures { tried self result ≡ step_of self word }
     {
-        Stepped {
-            verdict: Verdict::Refused(why),
-            checker: self,
-        }
-    }
-
-    fn step_by(self, timing: Timing, word: u32) -> Stepped
-        ensures { stepped result ≡ step_by (value timing) self word }
-    {
-        let stamps = self.stamps;
-        if !clock_fits(self.clock, self.met, stamps) {
-            return self.refused(Refusal::State);
+        let timing = self.config.timing()?;
+        if !past_fits(self.past()) {
+            return Err(Refusal::State);
         }
         if self.breach.number != 0 {
-            return self.refused(Refusal::InBreach);
+            return Err(Refusal::InBreach);
         }
-        if self.clock < LIMIT {
-            self.judged(timing, word)
-        } else {
-            self.refused(Refusal::ClockLimit)
+        if LIMIT <= self.clock {
+            return Err(Refusal::ClockLimit);
         }
+        Ok(self.judged(timing, word))
     }
 
     // Examines one word: the configuration's refusals, then 19, 23 and 24; otherwise the word passes or is the first breach.
     pub fn step(self, word: u32) -> Stepped
         ensures { stepped result ≡ step_of self word }
     {
-        let config = self.config;
-        match config.timing() {
-            TimingAnswer::Refused(why) => self.refused(why),
-            TimingAnswer::Accepted(timing) => self.step_by(timing, word),
+        match self.try_step(word) {
+            Ok(stepped) => stepped,
+            Err(why) => Stepped {
+                verdict: Err(why),
+                checker: self,
+            },
         }
     }
 }

@@ -3,4 +3,4 @@
 
 mod checker;
 
-pub use checker::{Breach, Checker, Stepped, Verdict};
+pub use checker::{Breach, Checker, Stepped};
