@@ -1,35 +1,25 @@
 -- The digits of a number, one power of ten after the other.
-use Prim.Native.Nat.{ℕ, zero, suc, ◌+◌, ◌/◌, ◌%◌, ◌≤◌, ◌<◌}
+use Prim.Native.Nat.{ℕ, ◌+◌, ◌/◌, ◌%◌, ◌≤◌, ◌<◌}
 use mathlib.Core.Path.{◌≡◌}
 use mathlib.Core.Bool.{Bool, true, false, cond}
 use mathlib.Core.List.{List, [], ◌∷◌, ◌++◌}
 use native.Mathlib.Omega.{arith}
-use native.Mathlib.Numerals.{add-one}
 use lib.ListN.{length, drop, get_or}
-use lib.Seq.{drop-cons}
+use Rattle.std.proofs.lemmas.List.{drop_more}
+use borrow.Author.Tests.{le-leb, lt-leb}
 use lib.Dec.{leb}
 use Rattle.line.specs.declared.Line.{Line}
-use Rattle.line.specs.Lines.{appended}
+use Rattle.line.specs.Lines.{pushed, appended}
 use Rattle.line.specs.Text.{digits_by, powers, decimal}
-use Rattle.line.proofs.Appended.{joined}
 
--- a line with the digit of the i-th power, and then with the digits of the later ones
-pub one_more : (l : Line) (n i : ℕ) → i < 9
-    → appended
-    (appended l (cond (leb (get_or powers i 0) n) ((48 + n / get_or powers i 0 % 10) ∷ []) []))
-    (digits_by (drop (i + 1) powers) n)
-    ≡ appended l (digits_by (drop i powers) n)
-one_more l n i h = rw (joined, add-one, drop-cons powers i 0 h)
+-- a line with the digit of the i-th power where the number reaches it, and then with the digits of the later ones
+module _ (l : Line) (n i : ℕ) (h : i < 9) where
+  pub shown-more : get_or powers i 0 ≤ n
+      → appended (pushed l (48 + n / get_or powers i 0 % 10)) (digits_by (drop (i + 1) powers) n) ≡ appended l (digits_by (drop i powers) n)
+  shown-more reached = rw (drop_more powers i 0 h, le-leb (get_or powers i 0) n reached)
 
--- no number of a list is 0
-abbrev Positive : List ℕ → Type 0
-Positive [] = Unit {0}
-Positive (p ∷ ps) = (0 < p) × Positive ps
-
-pub positive : (ps : List ℕ) → Positive ps → (i : ℕ) → i < length ps → 0 < get_or ps i 0
-positive [] h i l = absurd (omega arith)
-positive (p ∷ ps) h zero l = h.0
-positive (p ∷ ps) h (suc i) l = positive ps h.1 i (omega arith)
+  pub hidden-more : n < get_or powers i 0 → appended l (digits_by (drop (i + 1) powers) n) ≡ appended l (digits_by (drop i powers) n)
+  hidden-more beyond = rw (drop_more powers i 0 h, lt-leb (get_or powers i 0) n beyond)
 
 -- at most a digit for each power, and the last
 shown : (test : Bool) (d : ℕ) (ds : List ℕ) → length (cond test (d ∷ []) [] ++ ds) ≤ length ds + 1

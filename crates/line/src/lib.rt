@@ -1,11 +1,12 @@
 // A line of text that grows at its end. What no longer fits is left out.
 #![tactic(auto)]
 
-ghost use Rattle.std.specs.Prelude.{◌≡◌, cond, [], ◌∷◌, ◌+◌, ◌<◌};
+ghost use Rattle.std.specs.Prelude.{◌≡◌};
 ghost use Rattle.line.specs.Lines.{empty_line, pushed, appended};
 ghost use Rattle.line.specs.Text.{decimal};
 
-// Room for 40 bytes; the text is the first `len` of them.
+// Room for 40 bytes; the text is the first `len` of them. Each call answers any line that can be written down, also one whose `len` is
+// past 40: so both fields stay public, and no call asks for a bound.
 #[derive(Clone, Copy)]
 pub struct Line {
     pub bytes: [u8; 40],
@@ -29,25 +30,14 @@ impl Line {
     }
 
     // One byte more, where there is room for it.
-    pub fn push(self, byte: u8) -> Line
+    pub fn push(mut self, byte: u8) -> Line
         ensures { result ≡ pushed self byte }
     {
-        let at = self.len;
-        if at < 40 {
-            let mut bytes = self.bytes;
-            bytes[at] = byte;
-            Line { bytes, len: at + 1 }
-        } else {
-            self
+        if self.len < 40 {
+            self.bytes[self.len] = byte;
+            self.len += 1;
         }
-    }
-
-    // A digit, where the test shows it.
-    fn digit(self, shown: bool, n: u32) -> Line
-        requires { n < 10 }
-        ensures { result ≡ appended self (cond shown ((48 + n) ∷ []) []) }
-    {
-        if shown { self.push(48 + n as u8) } else { self }
+        self
     }
 
     // A number in decimal: a digit for each of these powers of ten that it reaches, and the last digit always.
@@ -55,11 +45,12 @@ impl Line {
         ensures { result ≡ appended self (decimal n) }
     {
         let mut line = self;
-        for i in 0..9 {
-            let power = POWERS[i];
-            line = line.digit(power <= n, n / power % 10);
+        for power in POWERS {
+            if power <= n {
+                line = line.push(b'0' + (n / power % 10) as u8);
+            }
         }
-        line.push(48 + (n % 10) as u8)
+        line.push(b'0' + (n % 10) as u8)
     }
 
     // A piece of text.
@@ -67,10 +58,8 @@ impl Line {
         ensures { result ≡ appended self piece.now }
     {
         let mut line = self;
-        let mut i = 0;
-        while i < piece.len() {
-            line = line.push(piece[i]);
-            i += 1;
+        for &byte in piece {
+            line = line.push(byte);
         }
         line
     }
