@@ -1,7 +1,7 @@
 // The pairs that a controller opens: which comes next, and the words of each.
 #![tactic(auto)]
 
-ghost use Rattle.std.specs.Prelude.{◌≡◌, ◌+◌, leb};
+ghost use Rattle.std.specs.Prelude.{◌≡◌, ◌+◌, cond, leb};
 ghost use Rattle.scheduler.specs.Pairs.{pair_words, is_open, of_waiting, place_of, chosen_at, next_pair};
 
 use command::{Operation, Pair, Request};
@@ -19,58 +19,38 @@ pub enum OpenPair {
     Waiting(u32),
 }
 
-// A pair is open.
-pub fn is_open(opened: OpenPair) -> bool
-    ensures { result ≡ is_open opened }
-{
-    match opened {
-        OpenPair::Nothing => false,
-        OpenPair::Extended => true,
-        OpenPair::Regular => true,
-        OpenPair::Refresh => true,
-        OpenPair::Waiting(_) => true,
+impl OpenPair {
+    // A pair is open.
+    pub fn is_open(self) -> bool
+        ensures { result ≡ is_open self }
+    {
+        !matches!(self, OpenPair::Nothing)
     }
-}
 
-// The open pair is that of a waiting request.
-pub fn of_waiting(opened: OpenPair) -> bool
-    ensures { result ≡ of_waiting opened }
-{
-    match opened {
-        OpenPair::Nothing => false,
-        OpenPair::Extended => false,
-        OpenPair::Regular => false,
-        OpenPair::Refresh => false,
-        OpenPair::Waiting(_) => true,
+    // The place of the request whose pair is open; none where it is no request's.
+    pub fn place(self) -> Option<u32>
+        ensures { result ≡ cond (of_waiting self) (Some (place_of self)) None }
+    {
+        match self {
+            OpenPair::Waiting(place) => Some(place),
+            _ => None,
+        }
     }
-}
 
-// The place of the request whose pair is open; 0 where it is no request's.
-pub fn place_of(opened: OpenPair) -> u32
-    ensures { result ≡ place_of opened }
-{
-    match opened {
-        OpenPair::Nothing => 0,
-        OpenPair::Extended => 0,
-        OpenPair::Regular => 0,
-        OpenPair::Refresh => 0,
-        OpenPair::Waiting(place) => place,
-    }
-}
-
-// The two words of an open pair, from the request at its place; DESL where none is open.
-pub fn pair_words(timing: Timing, opened: OpenPair, request: Request) -> Pair
-    ensures { result ≡ pair_words timing opened request }
-{
-    match opened {
-        OpenPair::Nothing => Pair {
-            first: DESL,
-            second: DESL,
-        },
-        OpenPair::Extended => writing::encode(timing, Operation::Extended(0)),
-        OpenPair::Regular => writing::encode(timing, Operation::Regular(false)),
-        OpenPair::Refresh => writing::encode(timing, Operation::Refresh),
-        OpenPair::Waiting(_) => writing::encode(timing, Operation::Access(request)),
+    // The two words of an open pair, from the request at its place; DESL where none is open.
+    pub fn words(self, timing: Timing, request: Request) -> Pair
+        ensures { result ≡ pair_words timing self request }
+    {
+        match self {
+            OpenPair::Nothing => Pair {
+                first: DESL,
+                second: DESL,
+            },
+            OpenPair::Extended => writing::encode(timing, Operation::Extended(0)),
+            OpenPair::Regular => writing::encode(timing, Operation::Regular(false)),
+            OpenPair::Refresh => writing::encode(timing, Operation::Refresh),
+            OpenPair::Waiting(_) => writing::encode(timing, Operation::Access(request)),
+        }
     }
 }
 
@@ -78,7 +58,7 @@ pub fn pair_words(timing: Timing, opened: OpenPair, request: Request) -> Pair
 fn refresh_due(last: u32, refi: u32, clock: u32, rc: u32) -> bool
     ensures { result ≡ leb (last + refi) (clock + rc) }
 {
-    last as u64 + refi as u64 <= clock as u64 + rc as u64
+    u64::from(last) + u64::from(refi) <= u64::from(clock) + u64::from(rc)
 }
 
 // The pair of the request at a place, where so many wait; nothing where none waits there.
@@ -97,16 +77,13 @@ pub fn next_pair(timing: Timing, stamps: Timestamps, clock: u32, chosen: OpenPai
     ensures { result ≡ next_pair timing stamps clock chosen }
 {
     let figures = timing.figures();
-    let refs = stamps.refs;
-    let due = refresh_due(refs[0], figures.refi, clock, figures.rc);
     if stamps.extended == 0 {
-        return OpenPair::Extended;
+        OpenPair::Extended
+    } else if stamps.regular == 0 {
+        OpenPair::Regular
+    } else if stamps.refs[1] == 0 || refresh_due(stamps.refs[0], figures.refi, clock, figures.rc) {
+        OpenPair::Refresh
+    } else {
+        chosen
     }
-    if stamps.regular == 0 {
-        return OpenPair::Regular;
-    }
-    if (refs[1] == 0) | due {
-        return OpenPair::Refresh;
-    }
-    chosen
 }
