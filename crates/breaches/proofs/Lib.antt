@@ -1,2 +1,3 @@
 -- What the proofs of the functions have in common.
 pub mod ByKind
+pub mod FirstOf

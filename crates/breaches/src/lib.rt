@@ -3,9 +3,9 @@
 
 mod power_down;
 
-ghost use Rattle.std.specs.Prelude.{◌≡◌, true, false, cond, ◌+◌, get_or};
+ghost use Rattle.std.specs.Prelude.{◌≡◌, true, false, ◌+◌, get_or};
 ghost use Rattle.command.specs.Pairs.{rda, lal};
-ghost use Rattle.early.specs.Answers.{rule_number, breach_number};
+ghost use Rattle.early.specs.Answers.{breach_number};
 ghost use Rattle.rules.specs.Breaches.{near, not_ready, too_close, busy, closing_breach, word_breach};
 
 use command::Pair;
@@ -64,13 +64,6 @@ fn busy(timing: Timing, past: Past) -> bool
     (after_read | after_write) | rda & read_data | rda & write_data
 }
 
-// The rule, where its test holds, and otherwise what is found behind it.
-fn first_of(test: bool, rule: Rule, rest: Option<Rule>) -> Option<Rule>
-    ensures { breach_number result ≡ cond test (rule_number rule) (breach_number rest) }
-{
-    if test { Some(rule) } else { rest }
-}
-
 // Rules 4 to 12 at the LAL word of a read or write.
 fn access_breach(timing: Timing, past: Past, word: u32) -> Option<Rule>
     requires { lal word ≡ true }
@@ -89,22 +82,13 @@ fn access_breach(timing: Timing, past: Past, word: u32) -> Option<Rule>
     let too_close = too_close(timing, past);
     let after_mode = near(clock, past.stamps.mode, figures.rsc, 0);
     let after_refresh = near(clock, past.stamps.refs[0], figures.refc, 0);
-    // The lowest from 9 on, and from 7 on.
-    let from_9 = first_of(
-        after_mode,
-        Rule::AfterMode,
-        first_of(after_refresh, Rule::AfterRefresh, None),
-    );
-    let from_7 = first_of(
-        same_bank,
-        Rule::SameBank,
-        first_of(too_close, Rule::TooClose, from_9),
-    );
-    first_of(
-        reserved,
-        Rule::ReservedLane,
-        first_of(unready, Rule::NotReady, from_7),
-    )
+    reserved
+        .then_some(Rule::ReservedLane)
+        .or(unready.then_some(Rule::NotReady))
+        .or(same_bank.then_some(Rule::SameBank))
+        .or(too_close.then_some(Rule::TooClose))
+        .or(after_mode.then_some(Rule::AfterMode))
+        .or(after_refresh.then_some(Rule::AfterRefresh))
 }
 
 // Rules 4 to 12 at an MRS or REF word.
@@ -124,17 +108,12 @@ fn mode_or_refresh_breach(timing: Timing, past: Past, word: u32) -> Option<Rule>
     let after_refresh = near(clock, past.stamps.refs[0], figures.refc, 0);
     let busy = busy(timing, past);
     let in_window = near(clock, past.stamps.refs[7], figures.window, 0);
-    let from_11 = first_of(
-        busy,
-        Rule::Busy,
-        first_of(!rda & in_window, Rule::RefreshWindow, None),
-    );
-    let from_9 = first_of(
-        after_mode,
-        Rule::AfterMode,
-        first_of(after_refresh, Rule::AfterRefresh, from_11),
-    );
-    first_of(wrong, Rule::WrongMode, from_9)
+    wrong
+        .then_some(Rule::WrongMode)
+        .or(after_mode.then_some(Rule::AfterMode))
+        .or(after_refresh.then_some(Rule::AfterRefresh))
+        .or(busy.then_some(Rule::Busy))
+        .or((!rda & in_window).then_some(Rule::RefreshWindow))
 }
 
 // Rules 4 to 12 at the closing word of a pair.
@@ -159,7 +138,7 @@ pub fn word_breach(timing: Timing, past: Past, word: u32) -> Option<Rule>
     if early.is_some() {
         early
     } else if high(past.met, CS) {
-        first_of(selected_at_exit(past.met, word), Rule::SelectedAtExit, None)
+        selected_at_exit(past.met, word).then_some(Rule::SelectedAtExit)
     } else {
         closing_breach(timing, past, word)
     }

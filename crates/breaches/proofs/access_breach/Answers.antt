@@ -1,5 +1,7 @@
 -- The tests that only an MRS or REF can meet are false at a LAL word.
+use Rattle.std.proofs.Common.{◌∙◌}
 use Rattle.breaches.proofs.ByKind.{at-lal}
+use Rattle.breaches.proofs.FirstOf.{of_access}
 use Rattle.breaches.proofs.access_breach.Goals as goal
 
 pub returns : goal.returns
@@ -8,14 +10,20 @@ returns c =
     let figures = c.figures-figures.ensures in
     let clock = c.from-clock.ensures in
     rw (
-      c.first_of-4.ensures,
-      c.first_of-3.ensures,
-      c.first_of-from_7.ensures,
-      c.first_of-2.ensures,
-      c.first_of-from_9.ensures,
-      c.first_of.ensures,
+      c.or-5.ensures,
+      c.or-4.ensures,
+      c.or-3.ensures,
+      c.or-2.ensures,
+      c.or.ensures,
+      c.then_some.ensures,
+      c.then_some-2.ensures,
+      c.then_some-3.ensures,
+      c.then_some-4.ensures,
+      c.then_some-5.ensures,
+      c.then_some-6.ensures,
     )
-    (at-lal c.args.timing past.stamps past.clock past.met c.args.word c.requires
+    (of_access _ _ _ _ _ _
+    ∙ at-lal c.args.timing past.stamps past.clock past.met c.args.word c.requires
     c.lane_reserved-reserved.ensures
     c.unready-unready.ensures
     (rw (clock, c.bank-bank.ensures.0, figures) at c.near-same_bank.ensures)

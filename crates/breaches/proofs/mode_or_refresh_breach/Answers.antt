@@ -1,5 +1,7 @@
 -- The tests that only a read or write can meet are false at an MRS or REF word.
+use Rattle.std.proofs.Common.{◌∙◌}
 use Rattle.breaches.proofs.ByKind.{at_other}
+use Rattle.breaches.proofs.FirstOf.{of_other}
 use Rattle.breaches.proofs.mode_or_refresh_breach.Goals as goal
 
 pub returns : goal.returns
@@ -8,14 +10,19 @@ returns c =
     let figures = c.figures-figures.ensures in
     let clock = c.from-clock.ensures in
     rw (
-      c.first_of-3.ensures,
-      c.first_of-from_9.ensures,
-      c.first_of-2.ensures,
-      c.first_of-from_11.ensures,
-      c.first_of.ensures,
+      c.or-4.ensures,
+      c.or-3.ensures,
+      c.or-2.ensures,
+      c.or.ensures,
+      c.then_some.ensures,
+      c.then_some-2.ensures,
+      c.then_some-3.ensures,
+      c.then_some-4.ensures,
+      c.then_some-5.ensures,
       c.high-rda.ensures,
     )
-    (at_other c.args.timing past.stamps past.clock past.met c.args.word c.requires
+    (of_other _ _ _ _ _
+    ∙ at_other c.args.timing past.stamps past.clock past.met c.args.word c.requires
     c.mode_wrong-wrong.ensures
     (rw (clock, figures) at c.near-after_mode.ensures)
     (rw (clock, figures) at c.near-after_refresh.ensures)
