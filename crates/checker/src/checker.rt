@@ -68,9 +68,8 @@ impl Checker {
         ensures { stepped result ≡ judged timing self word }
     {
         let figures = timing.figures();
-        let number = word_breach(timing, self.past(), word);
-        if number == 0 {
-            return Stepped {
+        match word_breach(timing, self.past(), word) {
+            None => Stepped {
                 verdict: Ok(None),
                 checker: Checker {
                     clock: self.clock + 1,
@@ -78,15 +77,17 @@ impl Checker {
                     stamps: self.stamps.after(figures.four, self.clock, self.met, word),
                     ..self
                 },
-            };
-        }
-        let breach = Breach {
-            clock: self.clock,
-            number,
-        };
-        Stepped {
-            verdict: Ok(Some(breach)),
-            checker: Checker { breach, ..self },
+            },
+            Some(rule) => {
+                let breach = Breach {
+                    clock: self.clock,
+                    number: rule.number(),
+                };
+                Stepped {
+                    verdict: Ok(Some(breach)),
+                    checker: Checker { breach, ..self },
+                }
+            }
         }
     }
 
