@@ -1,16 +1,22 @@
-use Rattle.std.proofs.Common.{refl, sym, ◌∙◌, ap, rules}
-use Rattle.basics.specs.Outcome.{value}
+-- A run over what is kept gives the verdict, from the first word on; a word that breaches a rule ends it.
+use Rattle.std.proofs.Common.{◌≡◌, refl, sym, ap, ◌∙◌, get_or, arith}
+use Rattle.std.proofs.lemmas.Grind.{common_steps}
+use Rattle.early.specs.declared.rule.Rule.{Rule}
+use Rattle.early.specs.Answers.{rule_number}
 use Rattle.rules.proofs.Words.{run_is, run_breaches}
 use Rattle.wordcheck.proofs.judged.Goals as goal
 
-pub loop-clock-init : goal.loop-clock-init
-loop-clock-init c = (search rules, rw c.never-stamps.ensures (run_is c.args.timing c.args.words.now))
+-- no rule has the number 0
+numbered : (r : Rule) → rule_number r ≡ 0 → ⊥
+numbered r e = grind (arith, common_steps)
 
-pub returns-then-number-ne0 : goal.returns-then-number-ne0
-returns-then-number-ne0 c =
-    let l = c.loop-clock in
-    let a = c.args in
-    ap value
-    (sym
-    (l.invariant.1 ∙ run_breaches a.timing l.stamps l.first a.words.now l.clock
-    c.loop-clock-test.true refl c.word_breach-number.ensures c.if-number-ne0.true))
+pub loop-word-init : goal.loop-word-init
+loop-word-init c = rw c.start-past.ensures (refl, run_is c.args.timing c.args.words.now)
+
+pub returns-in-Some : goal.returns-in-Some
+returns-in-Some c =
+    let past = c.loop-word.past in
+    let number = c.number.ensures ∙ c.in-Some.ensures in
+    let word = ap (λ k. get_or c.args.words.now k 0) (sym c.loop-word.invariant.0) in
+    let breaches = run_breaches c.args.timing past.stamps past.met c.args.words.now past.clock (omega arith) word number in
+    sym (c.loop-word.invariant.1 ∙ breaches (rw c.number.ensures (numbered c.in-Some.rule)))
