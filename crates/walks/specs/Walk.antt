@@ -1,7 +1,9 @@
 -- What an advance of a walk does, for every state there is; and a whole walk, beside the published verdict (RULES 5.5).
-use Rattle.std.specs.Prelude.{ℕ, zero, suc, ◌≤◌, ◌<◌, ◌≡◌, cond, List, [], ◌∷◌, length, get_or, ltb}
+use Rattle.std.specs.Prelude.{ℕ, zero, suc, ◌≤◌, ◌<◌, ◌≡◌, cond, List, [], ◌∷◌, length, get_or, ltb, Result}
 use Rattle.basics.specs.Outcome.{Outcome, value, refused, require, given}
-use Rattle.basics.specs.Numbers.{refusal_number, limit}
+use Rattle.basics.specs.Numbers.{limit}
+use Rattle.basics.specs.Answers.{outcome_by}
+use Rattle.basics.specs.declared.refusal.Refusal.{Refusal}
 use Rattle.config.specs.Configuration.{timing_of}
 use Rattle.config.specs.declared.Config.{Config}
 use Rattle.config.specs.declared.Timing.{Timing}
@@ -11,7 +13,7 @@ use Rattle.checker.specs.Steps.{Step, fresh, step_of}
 use Rattle.checker.specs.declared.checker.Checker.{Checker}
 use Rattle.walks.specs.declared.Moved.{Moved}
 use Rattle.walks.specs.declared.Progress.{Progress}
-use Rattle.walks.specs.declared.Progress.TheVariants.{Passed, InBreach, Refused, End}
+use Rattle.walks.specs.declared.Progress.TheVariants.{Passed, InBreach, End}
 
 -- what an advance reaches: its word passed, it breached (clock and number), or no word was left
 pub data Reached : Type 0 where
@@ -19,12 +21,15 @@ pub data Reached : Type 0 where
   breached : ℕ → ℕ → Reached
   ended : Reached
 
+-- what an advance that is not refused reaches, in the paper's terms
+abbrev pub reached_of : Progress → Reached
+reached_of Passed = passed
+reached_of (InBreach b) = breached b.clock b.number
+reached_of End = ended
+
 -- what an answer is in the paper's terms
-abbrev pub progress_outcome : Progress → Outcome Reached
-progress_outcome Passed = value passed
-progress_outcome (InBreach b) = value (breached b.clock b.number)
-progress_outcome (Refused r) = refused (refusal_number r)
-progress_outcome End = value ended
+abbrev pub progress_outcome : Result Progress Refusal → Outcome Reached
+progress_outcome r = outcome_by reached_of r
 
 -- an advance's answer, and the state that it leaves
 pub record Move : Type 0 where

@@ -6,52 +6,41 @@ ghost use Rattle.checker.specs.Steps.{verdict_outcome};
 ghost use Rattle.walks.specs.Walk.{progress_outcome, of_word, at_end, MovePromised};
 
 use basics::Refusal;
-use checker::{Breach, Checker, Verdict};
-use config::TimingAnswer;
-use consistency::clock_fits;
+use checker::{Breach, Checker, Stepped};
+use consistency::past_fits;
 
-// What an advance comes to.
-#[derive(Clone, Copy)]
+// What an advance that is not refused reaches.
+#[derive(Clone, Copy, Debug, PartialEq, Eq)]
 pub enum Progress {
     Passed,
     InBreach(Breach),
-    Refused(Refusal),
     End,
 }
 
+// What an advance answers, and the checker that it leaves.
 #[derive(Clone, Copy)]
 pub struct Moved {
-    pub progress: Progress,
+    pub progress: Result<Progress, Refusal>,
     pub checker: Checker,
 }
 
 // What the verdict on a single word is in a walk.
-fn of_word(verdict: Verdict) -> Progress
+fn of_word(verdict: Result<Option<Breach>, Refusal>) -> Result<Progress, Refusal>
     ensures { progress_outcome result ≡ of_word (verdict_outcome verdict) }
 {
-    match verdict {
-        Verdict::Accepted => Progress::Passed,
-        Verdict::InBreach(breach) => Progress::InBreach(breach),
-        Verdict::Refused(why) => Progress::Refused(why),
-    }
+    let breach = verdict?;
+    Ok(breach.map_or(Progress::Passed, Progress::InBreach))
 }
 
 // What an advance answers with no word left.
-fn at_end(checker: Checker) -> Progress
+fn at_end(checker: Checker) -> Result<Progress, Refusal>
     ensures { progress_outcome result ≡ at_end checker }
 {
-    let config = checker.config;
-    let stamps = checker.stamps;
-    match config.timing() {
-        TimingAnswer::Refused(why) => Progress::Refused(why),
-        TimingAnswer::Accepted(_) => {
-            if clock_fits(checker.clock, checker.met, stamps) {
-                Progress::End
-            } else {
-                Progress::Refused(Refusal::State)
-            }
-        }
+    checker.config.timing()?;
+    if !past_fits(checker.past()) {
+        return Err(Refusal::State);
     }
+    Ok(Progress::End)
 }
 
 // Examines the word at the checker's clock: the configuration's refusals and 19, then end where no word is left, then 23 and 24. The
@@ -59,19 +48,17 @@ fn at_end(checker: Checker) -> Progress
 pub fn next_word(words: &[u32], checker: Checker) -> Moved
     ensures { MovePromised checker words.now result }
 {
-    let at = checker.clock as usize;
-    if at < words.len() {
-        let stepped = checker.step(words[at]);
-        let verdict = stepped.verdict;
-        let after = stepped.checker;
-        Moved {
-            progress: of_word(verdict),
-            checker: after,
+    match words.get(checker.clock as usize) {
+        Some(&word) => {
+            let Stepped { verdict, checker } = checker.step(word);
+            Moved {
+                progress: of_word(verdict),
+                checker,
+            }
         }
-    } else {
-        Moved {
+        None => Moved {
             progress: at_end(checker),
             checker,
-        }
+        },
     }
 }
