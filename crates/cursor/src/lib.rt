@@ -3,9 +3,10 @@
 
 ghost use Rattle.cursor.specs.Cursor.{AdvancePromised, NewPromised};
 
+use basics::Refusal;
 use checker::Checker;
 use config::Config;
-use walks::{Progress, next_word};
+use walks::{Moved, Progress, next_word};
 
 // The words stay the caller's; the clock that the walk has reached is the checker's.
 #[derive(Clone, Copy)]
@@ -15,18 +16,20 @@ pub struct TraceCursor<'a> {
 }
 
 // A fresh walk over the words, on any configuration.
-pub fn new<'a>(words: &'a [u32], config: Config) -> TraceCursor<'a>
+pub fn new(words: &[u32], config: Config) -> TraceCursor<'_>
     ensures { NewPromised words.entry config result }
 {
-    let checker = Checker::fresh(config);
-    TraceCursor { words, checker }
+    TraceCursor {
+        words,
+        checker: Checker::fresh(config),
+    }
 }
 
 // Examines one more word. The walk is left with the same words, and with the checker that `next_word` gives.
-pub fn advance<'s, 'a>(cursor: &'s mut TraceCursor<'a>) -> Progress
+pub fn advance(cursor: &mut TraceCursor<'_>) -> Result<Progress, Refusal>
     ensures { AdvancePromised cursor.old result cursor.new }
 {
-    let moved = next_word(cursor.words, cursor.checker);
-    cursor.checker = moved.checker;
-    moved.progress
+    let Moved { progress, checker } = next_word(cursor.words, cursor.checker);
+    cursor.checker = checker;
+    progress
 }
