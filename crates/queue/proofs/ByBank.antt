@@ -1,32 +1,15 @@
--- The totals of a list of requests: those of two lists add up, none is above the number of requests, and each is found at its bank.
-use Prim.Native.Nat.{ℕ, zero, suc, ◌+◌, ◌≤◌, ◌<◌}
+-- The totals of a list of requests: each is found at its bank.
+use Prim.Native.Nat.{ℕ, zero, suc, ◌+◌, ◌<◌}
 use mathlib.Core.Path.{◌≡◌, refl, ◌∙◌, ap}
-use mathlib.Core.Bool.{Bool, true, false, cond}
-use mathlib.Core.List.{List, [], ◌∷◌, ◌++◌}
+use mathlib.Core.Bool.{Bool, true, false}
+use mathlib.Core.List.{List}
 use native.Mathlib.Omega.{arith}
 use borrow.Author.Tests.{eqb-true, eqb-false, eq-eqb}
-use lib.ListN.{length, get_or}
+use lib.ListN.{get_or}
 use lib.Dec.{eqb}
 use Rattle.config.proofs.Bounds.{both}
 use Rattle.command.specs.declared.operation.Request.{Request}
 use Rattle.queue.specs.Totals.{for_bank, totals_from, totals_of, AreTotals, all_below, same_totals}
-
-pub for_append : (b : ℕ) (xs ys : List Request) → for_bank b (xs ++ ys) ≡ for_bank b xs + for_bank b ys
-for_append b [] ys = omega arith
-for_append b (x ∷ xs) ys = by (eqb x.bank b) (for_bank b xs) (for_append b xs ys)
-  where
-    by : (e : Bool) (n : ℕ) → for_bank b (xs ++ ys) ≡ n + for_bank b ys
-        → cond e (suc (for_bank b (xs ++ ys))) (for_bank b (xs ++ ys)) ≡ cond e (suc n) n + for_bank b ys
-    by true n h = omega arith
-    by false n h = h
-
-pub few : (b : ℕ) (rs : List Request) → for_bank b rs ≤ length rs
-few b [] = omega arith
-few b (r ∷ rs) = by (eqb r.bank b) (few b rs)
-  where
-    by : (e : Bool) → for_bank b rs ≤ length rs → cond e (suc (for_bank b rs)) (for_bank b rs) ≤ suc (length rs)
-    by true h = omega arith
-    by false h = omega arith
 
 total-at : (n k i : ℕ) (rs : List Request) → i < n → get_or (totals_from k n rs) i 0 ≡ for_bank (k + i) rs
 total-at zero k i rs h = absurd (omega arith)

@@ -1,25 +1,32 @@
 -- The loop that counts the waiting requests by bank. One request more raises the total of its bank and no other, and none where its bank
 -- is past the eighth. No total is above the number of requests, so no sum wraps.
 use Prim.Native.Nat.{ℕ, zero, suc, ◌+◌, ◌≤◌, ◌<◌}
-use mathlib.Core.Path.{◌≡◌, refl, ap}
+use mathlib.Core.Path.{◌≡◌, refl, ◌∙◌, ap}
 use mathlib.Core.List.{List, [], ◌∷◌, ◌++◌}
-use native.Mathlib.Nat.{add-zero}
+use native.Mathlib.Nat.{add-zero, zero-add}
 use native.Mathlib.Numerals.{add-one}
 use native.Mathlib.Omega.{arith}
 use borrow.Author.Tests.{eq-eqb, ne_eqb}
+use Rattle.std.proofs.lemmas.List.Sums.{sum_by-append, count_by-le-length}
+use mathlib.Core.Bool.{cond}
+use lib.Dec.{eqb}
 use lib.ListN.{length, get_or, set, take, length-take}
 use lib.Seq.{take-suc}
 use Rattle.command.specs.declared.operation.Request.{Request}
 use Rattle.queue.specs.Queue.{vacant}
 use Rattle.queue.specs.Totals.{for_bank, totals_from, totals_of}
-use Rattle.queue.proofs.ByBank.{for_append, few, are_totals}
+use Rattle.queue.proofs.ByBank.{are_totals}
 
 module _ (rs : List Request) (r : Request) where
+  -- it counts for its bank
+  more : (k : ℕ) → for_bank k (rs ++ (r ∷ [])) ≡ for_bank k rs + cond (eqb r.bank k) 1 0
+  more k = sum_by-append (λ x. cond (eqb x.bank k) 1 0) rs (r ∷ []) ∙ ap (λ n. for_bank k rs + n) (zero-add (cond (eqb r.bank k) 1 0))
+
   -- its bank is none of these
   unraised : (n k : ℕ) → ((b : ℕ) → k ≤ b → b < k + n → r.bank ≡ b → ⊥) → totals_from k n rs ≡ totals_from k n (rs ++ (r ∷ []))
   unraised zero k h = refl
   unraised (suc n) k h =
-      rw (for_append k rs (r ∷ []), ne_eqb r.bank k (h k (omega arith) (omega arith)), add-zero (for_bank k rs))
+      rw (more k, ne_eqb r.bank k (h k (omega arith) (omega arith)), add-zero (for_bank k rs))
       (ap (λ ts. for_bank k rs ∷ ts) (unraised n (suc k) (λ b l u. h b (omega arith) (omega arith))))
 
   -- its bank is the one at place i
@@ -27,10 +34,10 @@ module _ (rs : List Request) (r : Request) where
       → set (totals_from k n rs) i (get_or (totals_from k n rs) i 0 + 1) ≡ totals_from k n (rs ++ (r ∷ []))
   raised zero k i e h = absurd (omega arith)
   raised (suc n) k zero e h =
-      rw (for_append k rs (r ∷ []), eq-eqb r.bank k (omega arith))
+      rw (more k, eq-eqb r.bank k (omega arith))
       (ap (λ ts. (for_bank k rs + 1) ∷ ts) (unraised n (suc k) (λ b l u q. omega arith)))
   raised (suc n) k (suc i) e h =
-      rw (for_append k rs (r ∷ []), ne_eqb r.bank k (λ q. omega arith), add-zero (for_bank k rs))
+      rw (more k, ne_eqb r.bank k (λ q. omega arith), add-zero (for_bank k rs))
       (ap (λ ts. for_bank k rs ∷ ts) (raised n (suc k) i (omega arith) (omega arith)))
 
 module _ (w : List Request) (i : ℕ) (h : i < length w) where
@@ -47,4 +54,4 @@ module _ (w : List Request) (i : ℕ) (h : i < length w) where
 
 -- a total of the first i requests is at most i
 pub few-taken : (b i : ℕ) (w : List Request) → b < 8 → get_or (totals_of (take i w)) b 0 ≤ i
-few-taken b i w h = rw (are_totals (take i w) b h) (omega (arith, few b (take i w), length-take i w))
+few-taken b i w h = rw (are_totals (take i w) b h) (omega (arith, count_by-le-length (λ r. eqb r.bank b) (take i w), length-take i w))

@@ -1,5 +1,4 @@
--- What the loops over the waiting requests need, and the laws of their totals.
+-- What is copied when one leaves, a turn of the loop that counts, and the laws of the totals.
 pub mod ByBank
 pub mod Closing
 pub mod Counting
-pub mod Waiting

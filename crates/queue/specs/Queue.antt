@@ -1,5 +1,6 @@
 -- The requests that wait: whether they fit, and which is at a place (RULES 8.2).
-use Rattle.std.specs.Prelude.{ℕ, Bool, true, false, ◌&&◌, List, [], ◌∷◌, get_or}
+use Rattle.std.specs.Prelude.{ℕ, Bool, false, List, get_or}
+use Rattle.std.specs.List.{list_all}
 use Rattle.config.specs.declared.Timing.{Timing}
 use Rattle.writing.specs.Writing.{request_fits}
 use Rattle.command.specs.declared.operation.Request.{Request}
@@ -10,8 +11,7 @@ vacant = record { write = false; bank = 0; row = 0; column = 0; lower = 0; upper
 
 -- every field of these requests is in its range
 abbrev pub all_fit : Timing → List Request → Bool
-all_fit t [] = true
-all_fit t (r ∷ rs) = request_fits t r && all_fit t rs
+all_fit t rs = list_all (request_fits t) rs
 
 -- the request at a place; a vacant one where there is no such place
 abbrev pub request_at : ℕ → List Request → Request

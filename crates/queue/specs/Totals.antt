@@ -1,11 +1,10 @@
 -- How many requests wait for each bank (RULES 8.9).
-use Rattle.std.specs.Prelude.{ℕ, zero, suc, ◌<◌, ◌≡◌, Bool, true, cond, ◌&&◌, List, [], ◌∷◌, get_or, eqb}
+use Rattle.std.specs.Prelude.{ℕ, zero, suc, ◌<◌, ◌≡◌, Bool, true, ◌&&◌, List, [], ◌∷◌, get_or, eqb, count_by}
 use Rattle.command.specs.declared.operation.Request.{Request}
 
 -- how many of these requests are for bank b
 abbrev pub for_bank : ℕ → List Request → ℕ
-for_bank b [] = 0
-for_bank b (r ∷ rs) = cond (eqb r.bank b) (suc (for_bank b rs)) (for_bank b rs)
+for_bank b rs = count_by (λ r. eqb r.bank b) rs
 
 -- so for n banks, from bank b on
 abbrev pub totals_from : ℕ → ℕ → List Request → List ℕ

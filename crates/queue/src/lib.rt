@@ -1,13 +1,14 @@
-// The requests that wait, oldest first: as many as are counted of sixteen places. A count above sixteen counts them all.
+// The requests that wait, oldest first: as many as are counted of sixteen places. A count above sixteen counts them all. The places and
+// their count are two arguments, as they are two fields of a controller: a struct of both would be made anew, with a copy, for each call.
 #![tactic(auto)]
 
 mod totals;
 
-ghost use Rattle.std.specs.Prelude.{◌≡◌, cond, ◌-◌, min, take};
+ghost use Rattle.std.specs.Prelude.{◌≡◌, ◌-◌, take};
+ghost use Rattle.std.specs.Option.{option_map_or};
 ghost use Rattle.queue.specs.Queue.{vacant, all_fit, request_at};
 ghost use Rattle.queue.specs.Place.{closed_up};
 
-use basics::choose;
 use command::Request;
 use config::Timing;
 pub use totals::{same_totals, totals_of};
@@ -22,75 +23,53 @@ pub const VACANT: Request = Request {
     upper: 0,
 };
 
-pub(crate) fn lesser(x: u32, y: u32) -> u32
-    ensures { result ≡ min x y }
-{
-    if x < y { x } else { y }
-}
-
 // Every field of the first so many waiting requests is in its range.
 pub fn waiting_fit(timing: Timing, waiting: [Request; 16], count: u32) -> bool
     ensures { result ≡ all_fit timing (take count waiting) }
 {
-    let end = lesser(count, 16);
-    let mut i: u32 = 0;
-    while i < end {
-        let request = waiting[i as usize];
-        if !writing::request_fits(timing, request) {
-            return false;
-        }
-        i += 1;
-    }
-    true
+    waiting
+        .iter()
+        .take(count as usize)
+        .all(|&request| writing::request_fits(timing, request))
 }
 
 // The request at a place; a vacant one where there is no such place.
 pub fn request_at(waiting: [Request; 16], place: u32) -> Request
     ensures { result ≡ request_at place waiting }
 {
-    if place < 16 {
-        waiting[place as usize]
-    } else {
-        VACANT
-    }
+    waiting.get(place as usize).copied().unwrap_or(VACANT)
 }
 
 // The one at a place has left: each behind it is one place further on. The work goes by how many wait behind it. Where the place is not one
 // that is counted, none has left.
-fn closed_up(waiting: [Request; 16], count: u32, place: u32) -> [Request; 16]
+fn closed_up(mut waiting: [Request; 16], count: u32, place: u32) -> [Request; 16]
     ensures { result ≡ closed_up vacant place count waiting }
 {
-    let counted = lesser(count, 16);
-    if counted <= place {
-        return waiting;
+    let counted = count.min(16) as usize;
+    let at = place as usize;
+    if at < counted {
+        waiting.copy_within(at + 1..counted, at);
+        waiting[counted - 1] = VACANT;
     }
-    let last = counted as usize - 1;
-    let mut moved = waiting;
-    let mut i = place as usize;
-    while i < last {
-        let behind = moved[i + 1];
-        moved[i] = behind;
-        i += 1;
-    }
-    moved[last] = VACANT;
-    moved
+    waiting
 }
 
 // The requests, once the one at a place has left or none has.
-pub fn requests_left(leaves: bool, waiting: [Request; 16], count: u32, place: u32) -> [Request; 16]
-    ensures { result ≡ cond leaves (closed_up vacant place count waiting) waiting }
+pub fn requests_left(waiting: [Request; 16], count: u32, place: Option<u32>) -> [Request; 16]
+    ensures { result ≡ option_map_or (λ p. closed_up vacant p count waiting) place waiting }
 {
-    if leaves {
-        closed_up(waiting, count, place)
-    } else {
-        waiting
+    match place {
+        Some(place) => closed_up(waiting, count, place),
+        None => waiting,
     }
 }
 
 // How many wait, once one has left or none has; 0 stays 0.
-pub fn count_left(leaves: bool, count: u32) -> u32
-    ensures { result ≡ cond leaves (count - 1) count }
+pub fn count_left(count: u32, place: Option<u32>) -> u32
+    ensures { result ≡ option_map_or (λ p. count - 1) place count }
 {
-    let fewer = count - lesser(count, 1);
-    choose(leaves, fewer, count)
+    match place {
+        Some(_) => count.saturating_sub(1),
+        None => count,
+    }
 }
