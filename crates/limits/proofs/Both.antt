@@ -1,13 +1,14 @@
 -- The call on limits that it takes is the check on the one sheet, and where that is accepted, on the other.
 use Prim.Native.Nat.{ℕ}
-use mathlib.Core.Path.{◌≡◌, refl}
+use mathlib.Core.Path.{◌≡◌, refl, sym}
 use mathlib.Core.Bool.{Bool, true, false, ◌&&◌}
 use mathlib.Core.List.{List}
 use lib.ListN.{length}
 use lib.Dec.{leb}
 use Rattle.basics.specs.Outcome.{Outcome, value, refused, require, given}
-use Rattle.config.specs.Configuration.{derived, timing_of}
+use Rattle.config.specs.Configuration.{timing_of}
 use Rattle.config.specs.declared.Config.{Config}
+use Rattle.config.specs.declared.Timing.{Timing}
 use Rattle.rules.specs.Verdict.{Judgement, accepted, breach, judge, check_of}
 use Rattle.limits.specs.Limits.{alike, nowhere_above, Finding, always, breach_on, shown, within_of}
 
@@ -29,7 +30,8 @@ by_length true c d accepted j = refl
 by_length true c d (breach clock n) j = refl
 by_length false c d i j = refl
 
-pub by_both : (a b : Config) (words : List ℕ) → (timing_of a ≡ value (derived a)) × (timing_of b ≡ value (derived b))
-    → (alike a b && nowhere_above a b) ≡ true → within_of a b words ≡ or_next (found_on a words) (found_on b words)
-by_both a b words (p, q) e =
-    rw (p, q, e) (by_length (leb (length words) 16777216) a b (judge (derived a) words) (judge (derived b) words))
+-- by what the first sheet comes to
+pub by_both : (a b : Config) (words : List ℕ) {s t : Timing} {o : Outcome Finding} → value s ≡ timing_of a → value t ≡ timing_of b
+    → (alike a b && nowhere_above a b) ≡ true → o ≡ found_on a words → or_next o (found_on b words) ≡ within_of a b words
+by_both a b words {s} {t} p q e h =
+    rw (← p, ← q, e, h, ← p) (sym (by_length (leb (length words) 16777216) a b (judge s words) (judge t words)))

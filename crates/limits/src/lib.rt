@@ -3,22 +3,20 @@
 
 ghost use Rattle.std.specs.Prelude.{◌≡◌};
 ghost use Rattle.basics.specs.Outcome.{value, given};
-ghost use Rattle.config.specs.Configuration.{derived, timing_of};
 ghost use Rattle.rules.specs.Verdict.{check_of};
 ghost use Rattle.limits.specs.Limits.{alike, nowhere_above, always, shown, within_of};
 ghost use Rattle.limits.specs.Answers.{findingOutcome};
 
 use basics::Refusal;
-use checker::{Breach, Verdict};
-use config::{Config, TimingAnswer};
+use checker::Breach;
+use config::Config;
 use wordcheck::check;
 
-// Accepted on every sheet in the limits; or a sheet there on which the trace is in breach, with that breach; or the refusal.
+// A sheet on which a trace is in breach, with that breach.
 #[derive(Clone, Copy)]
-pub enum LimitsAnswer {
-    Always,
-    InBreach(Config, Breach),
-    Refused(Refusal),
+pub struct BreachOn {
+    pub sheet: Config,
+    pub breach: Breach,
 }
 
 fn alike(least: Config, greatest: Config) -> bool
@@ -43,41 +41,29 @@ fn nowhere_above(least: Config, greatest: Config) -> bool
 }
 
 // The trace on one sheet.
-fn on_sheet(config: Config, words: &[u32]) -> LimitsAnswer
-    ensures { findingOutcome result ≡ given (check_of config words.now) (λ j. value (shown config j always)) }
+fn on_sheet(sheet: Config, words: &[u32]) -> Result<Option<BreachOn>, Refusal>
+    ensures { findingOutcome result ≡ given (check_of sheet words.now) (λ j. value (shown sheet j always)) }
 {
-    match check(config, words) {
-        Verdict::Accepted => LimitsAnswer::Always,
-        Verdict::InBreach(breach) => LimitsAnswer::InBreach(config, breach),
-        Verdict::Refused(why) => LimitsAnswer::Refused(why),
-    }
+    let breach = check(sheet, words)?;
+    Ok(breach.map(|breach| BreachOn { sheet, breach }))
 }
 
-// The trace on the one sheet, and where it is accepted there, on the other. These two decide for all between them.
-fn on_both(least: Config, greatest: Config, words: &[u32]) -> LimitsAnswer
-    requires { (timing_of least ≡ value (derived least)) × (timing_of greatest ≡ value (derived greatest)) }
+// None if the trace is accepted on every sheet in the limits; or a sheet there on which it is in breach: the one, and where it is accepted
+// on that, the other. These two decide for all between them. Refuses by the first sheet's numbers, the second's, 35 and 24, in this order.
+pub fn check_within(
+    least: Config,
+    greatest: Config,
+    words: &[u32],
+) -> Result<Option<BreachOn>, Refusal>
     ensures { findingOutcome result ≡ within_of least greatest words.now }
 {
-    if alike(least, greatest) & nowhere_above(least, greatest) {
-        match on_sheet(least, words) {
-            LimitsAnswer::Always => on_sheet(greatest, words),
-            LimitsAnswer::InBreach(sheet, breach) => LimitsAnswer::InBreach(sheet, breach),
-            LimitsAnswer::Refused(why) => LimitsAnswer::Refused(why),
-        }
-    } else {
-        LimitsAnswer::Refused(Refusal::Limits)
+    least.timing()?;
+    greatest.timing()?;
+    if !(alike(least, greatest) & nowhere_above(least, greatest)) {
+        return Err(Refusal::Limits);
     }
-}
-
-// Whether the trace is accepted on every sheet in the limits. Refuses by the first sheet's numbers, the second's, 35 and 24, in this order.
-pub fn check_within(least: Config, greatest: Config, words: &[u32]) -> LimitsAnswer
-    ensures { findingOutcome result ≡ within_of least greatest words.now }
-{
-    match least.timing() {
-        TimingAnswer::Refused(why) => LimitsAnswer::Refused(why),
-        TimingAnswer::Accepted(_) => match greatest.timing() {
-            TimingAnswer::Refused(why) => LimitsAnswer::Refused(why),
-            TimingAnswer::Accepted(_) => on_both(least, greatest, words),
-        },
+    match on_sheet(least, words)? {
+        Some(found) => Ok(Some(found)),
+        None => on_sheet(greatest, words),
     }
 }
