@@ -1,8 +1,10 @@
 -- What each call of a controller answers, and the state that it leaves, for every state there is (RULES 8.2 to 8.4).
-use Rattle.std.specs.Prelude.{ℕ, ◌+◌, ◌-◌, Bool, cond, not, ◌&&◌, List, set, take, eqb, leb, ltb}
+use Rattle.std.specs.Prelude.{ℕ, ◌+◌, ◌-◌, Bool, cond, Result, not, ◌&&◌, List, set, take, eqb, leb, ltb}
 use Rattle.command.specs.Pairs.{desl}
+use Rattle.basics.specs.Answers.{outcome_of}
 use Rattle.basics.specs.Outcome.{Outcome, value, refused}
-use Rattle.basics.specs.Numbers.{refusal_number, limit}
+use Rattle.basics.specs.Numbers.{limit}
+use Rattle.basics.specs.declared.refusal.Refusal.{Refusal}
 use Rattle.config.specs.Configuration.{timing_of}
 use Rattle.config.specs.declared.Timing.{Timing}
 use Rattle.writing.specs.Writing.{request_fits}
@@ -18,15 +20,12 @@ use Rattle.scheduler.specs.Pairs.{pair_words, is_open, of_waiting, place_of, cho
 use Rattle.scheduler.specs.declared.OpenPair.{OpenPair}
 use Rattle.scheduler.specs.declared.OpenPair.TheVariants.{Nothing}
 use Rattle.controller.specs.declared.Controller.{Controller}
-use Rattle.controller.specs.declared.CallAnswer.{CallAnswer}
-use Rattle.controller.specs.declared.CallAnswer.TheVariants.{Accepted, Refused}
 use Rattle.controller.specs.declared.Offered.{Offered}
 use Rattle.controller.specs.declared.Ticked.{Ticked}
 
 -- what an answer is in the paper's terms
-abbrev pub call_outcome : CallAnswer → Outcome (Unit {0})
-call_outcome Accepted = value tt
-call_outcome (Refused r) = refused (refusal_number r)
+abbrev pub call_outcome : Result (Unit {0}) Refusal → Outcome (Unit {0})
+call_outcome answer = outcome_of answer
 
 -- an offer's answer, and the state that it leaves
 pub record Offer : Type 0 where

@@ -12,13 +12,11 @@ ghost use Rattle.controller.specs.Steps.{offered, ticked, offer_of, tick_of};
 
 use basics::Refusal;
 use command::Request;
-use config::{Config, TimingAnswer};
-use offering::not_offered;
+use config::Config;
 pub use offering::offer_by;
 use queue::VACANT;
 use scheduler::OpenPair;
 use stamps::Timestamps;
-use ticking::not_ticked;
 pub use ticking::tick_choosing;
 
 #[derive(Clone, Copy)]
@@ -33,23 +31,16 @@ pub struct Controller {
     pub count: u32,
 }
 
-// What a call comes to.
-#[derive(Clone, Copy)]
-pub enum CallAnswer {
-    Accepted,
-    Refused(Refusal),
-}
-
 #[derive(Clone, Copy)]
 pub struct Offered {
-    pub answer: CallAnswer,
+    pub answer: Result<(), Refusal>,
     pub controller: Controller,
 }
 
 // A refused tick gives word 0.
 #[derive(Clone, Copy)]
 pub struct Ticked {
-    pub answer: CallAnswer,
+    pub answer: Result<(), Refusal>,
     pub word: u32,
     pub controller: Controller,
 }
@@ -76,10 +67,9 @@ impl Controller {
     pub fn offer(self, request: Request) -> Offered
         ensures { offered result ≡ offer_of self request }
     {
-        let config = self.config;
-        match config.timing() {
-            TimingAnswer::Refused(why) => not_offered(self, why),
-            TimingAnswer::Accepted(timing) => offer_by(timing, self, request),
+        match self.config.timing() {
+            Ok(timing) => offer_by(timing, self, request),
+            Err(why) => self.not_offered(why),
         }
     }
 
@@ -87,10 +77,9 @@ impl Controller {
     pub fn tick(self) -> Ticked
         ensures { ticked result ≡ tick_of self }
     {
-        let config = self.config;
-        match config.timing() {
-            TimingAnswer::Refused(why) => not_ticked(self, why),
-            TimingAnswer::Accepted(timing) => tick_choosing(timing, self, 0),
+        match self.config.timing() {
+            Ok(timing) => tick_choosing(timing, self, 0),
+            Err(why) => self.not_ticked(why),
         }
     }
 }

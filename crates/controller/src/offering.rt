@@ -4,40 +4,30 @@ ghost use Rattle.basics.specs.Outcome.{value};
 ghost use Rattle.basics.specs.Numbers.{refusal_number};
 ghost use Rattle.controller.specs.Steps.{offered, joined, not_offered, offer_by};
 
-use crate::state::{past_fits, requests_fit};
-use crate::{CallAnswer, Controller, Offered};
+use crate::{Controller, Offered};
 use basics::Refusal;
 use command::Request;
 use config::Timing;
 
-// An accepted request goes behind those that wait.
-fn joined(controller: Controller, request: Request) -> Controller
-    requires { controller.count < 16 }
-    ensures { result ≡ joined controller request }
-{
-    let config = controller.config;
-    let opened = controller.opened;
-    let stamps = controller.stamps;
-    let count = controller.count;
-    let mut waiting = controller.waiting;
-    waiting[count as usize] = request;
-    Controller {
-        config,
-        clock: controller.clock,
-        opened,
-        stamps,
-        waiting,
-        count: count + 1,
+impl Controller {
+    // An accepted request goes behind those that wait.
+    fn joined(mut self, request: Request) -> Controller
+        requires { self.count < 16 }
+        ensures { result ≡ joined self request }
+    {
+        self.waiting[self.count as usize] = request;
+        self.count += 1;
+        self
     }
-}
 
-// A refused offer changes nothing.
-pub(crate) fn not_offered(controller: Controller, why: Refusal) -> Offered
-    ensures { offered result ≡ not_offered controller (refusal_number why) }
-{
-    Offered {
-        answer: CallAnswer::Refused(why),
-        controller,
+    // A refused offer changes nothing.
+    pub(crate) fn not_offered(self, why: Refusal) -> Offered
+        ensures { offered result ≡ not_offered self (refusal_number why) }
+    {
+        Offered {
+            answer: Err(why),
+            controller: self,
+        }
     }
 }
 
@@ -46,18 +36,17 @@ pub(crate) fn not_offered(controller: Controller, why: Refusal) -> Offered
 pub fn offer_by(timing: Timing, controller: Controller, request: Request) -> Offered
     ensures { offered result ≡ offer_by (value timing) controller request }
 {
-    if !(past_fits(controller) & requests_fit(timing, controller)) {
-        return not_offered(controller, Refusal::State);
+    if !controller.fits(timing) {
+        return controller.not_offered(Refusal::State);
     }
     if !writing::request_fits(timing, request) {
-        return not_offered(controller, Refusal::Field);
+        return controller.not_offered(Refusal::Field);
     }
-    if controller.count < Controller::CAPACITY {
-        Offered {
-            answer: CallAnswer::Accepted,
-            controller: joined(controller, request),
-        }
-    } else {
-        not_offered(controller, Refusal::QueueFull)
+    if controller.count >= Controller::CAPACITY {
+        return controller.not_offered(Refusal::QueueFull);
+    }
+    Offered {
+        answer: Ok(()),
+        controller: controller.joined(request),
     }
 }

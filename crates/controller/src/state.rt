@@ -1,42 +1,35 @@
-// The grounds on which a state is refused by 19, in two parts: what a state keeps of its past, and what waits. A call asks both itself; one
-// function for the two would have the queue copied at every call.
-ghost use Rattle.std.specs.Prelude.{◌≡◌, ◌&&◌};
+// The grounds on which a state is refused by 19.
+ghost use Rattle.std.specs.Prelude.{◌≡◌};
 ghost use Rattle.queue.specs.Queue.{all_fit};
-ghost use Rattle.config.specs.declared.Timing.{Timing};
 ghost use Rattle.controller.specs.Steps.{held, state_fits};
 
 use crate::Controller;
 use config::Timing;
 use queue::waiting_fit;
-use scheduler::{is_open, of_waiting, place_of};
-use stamps::DESL;
+use stamps::{DESL, Past};
 
-// The clock and the events agree, no pair is open at clock 0, at most sixteen wait, and an open read or write pair has its request.
-pub(crate) fn past_fits(controller: Controller) -> bool
-    ensures { (t : Timing) → state_fits t controller ≡ result && all_fit t (held controller) }
-{
-    let clock = controller.clock;
-    let opened = controller.opened;
-    let stamps = controller.stamps;
-    let count = controller.count;
-    let before = consistency::clock_fits(clock, DESL, stamps);
-    let is_open = is_open(opened);
-    let of_waiting = of_waiting(opened);
-    let place = place_of(opened);
-    before
-        & !((clock == 0) & is_open)
-        & (count <= Controller::CAPACITY)
-        & !(of_waiting & (count <= place))
-}
-
-// Every field of the waiting requests is in its range. Where none waits, the queue is not looked at.
-pub(crate) fn requests_fit(timing: Timing, controller: Controller) -> bool
-    ensures { result ≡ all_fit timing (held controller) }
-{
-    let count = controller.count;
-    if count == 0 {
-        return true;
+impl Controller {
+    // Every field of the waiting requests is in its range. Where none waits, the queue is not looked at.
+    fn requests_fit(&self, timing: Timing) -> bool
+        ensures { result ≡ all_fit timing (held self.now) }
+    {
+        self.count == 0 || waiting_fit(timing, self.waiting, self.count)
     }
-    let waiting = controller.waiting;
-    waiting_fit(timing, waiting, count)
+
+    // The clock and the events agree, no pair is open at clock 0, at most sixteen wait, each with every field in its range, and an open read or
+    // write pair has its request.
+    pub(crate) fn fits(&self, timing: Timing) -> bool
+        ensures { result ≡ state_fits timing self.now }
+    {
+        let past = Past {
+            clock: self.clock,
+            met: DESL,
+            stamps: self.stamps,
+        };
+        consistency::past_fits(past)
+            & !((self.clock == 0) & self.opened.is_open())
+            & (self.count <= Controller::CAPACITY)
+            & self.requests_fit(timing)
+            & !self.opened.place().is_some_and(|place| self.count <= place)
+    }
 }

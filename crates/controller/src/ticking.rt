@@ -3,78 +3,65 @@ ghost use Rattle.std.specs.Prelude.{◌≡◌, ◌<◌};
 ghost use Rattle.basics.specs.Numbers.{refusal_number};
 ghost use Rattle.controller.specs.Steps.{ticked, starting, closing, not_ticked, tick_choosing};
 
-use crate::next::opens_next;
-use crate::state::{past_fits, requests_fit};
-use crate::{CallAnswer, Controller, Ticked};
+use crate::{Controller, Ticked};
 use basics::{LIMIT, Refusal};
 use config::Timing;
 use queue::{count_left, request_at, requests_left};
-use scheduler::{OpenPair, is_open, of_waiting, pair_words, place_of};
+use scheduler::OpenPair;
 
-// No pair is open: the first word of the one that opens, or DESL.
-fn starting(timing: Timing, controller: Controller, place: u32) -> Ticked
-    requires { controller.clock < 16777216 }
-    ensures { ticked result ≡ starting timing controller place }
-{
-    let config = controller.config;
-    let stamps = controller.stamps;
-    let waiting = controller.waiting;
-    let next = opens_next(timing, controller, place);
-    let request = request_at(waiting, place);
-    let words = pair_words(timing, next, request);
-    Ticked {
-        answer: CallAnswer::Accepted,
-        word: words.first,
-        controller: Controller {
-            config,
-            clock: controller.clock + 1,
-            opened: next,
-            stamps,
-            waiting,
-            count: controller.count,
-        },
+impl Controller {
+    // No pair is open: the first word of the one that opens, or DESL.
+    fn starting(self, timing: Timing, place: u32) -> Ticked
+        requires { self.clock < 16777216 }
+        ensures { ticked result ≡ starting timing self place }
+    {
+        let opened = self.opens_next(timing, place);
+        let words = opened.words(timing, request_at(self.waiting, place));
+        Ticked {
+            answer: Ok(()),
+            word: words.first,
+            controller: Controller {
+                clock: self.clock + 1,
+                opened,
+                ..self
+            },
+        }
     }
-}
 
-// A pair is open: its closing word, with which a request leaves from its place.
-fn closing(timing: Timing, controller: Controller) -> Ticked
-    requires { controller.clock < 16777216 }
-    ensures { ticked result ≡ closing timing controller }
-{
-    let config = controller.config;
-    let opened = controller.opened;
-    let stamps = controller.stamps;
-    let waiting = controller.waiting;
-    let clock = controller.clock;
-    let count = controller.count;
-    let at = place_of(opened);
-    let request = request_at(waiting, at);
-    let words = pair_words(timing, opened, request);
-    let leaves = of_waiting(opened);
-    let figures = timing.figures();
-    let four = figures.four;
-    Ticked {
-        answer: CallAnswer::Accepted,
-        word: words.second,
-        controller: Controller {
-            config,
-            clock: clock + 1,
-            opened: OpenPair::Nothing,
-            stamps: stamps.remembered(four, clock, words.first, words.second),
-            waiting: requests_left(leaves, waiting, count, at),
-            count: count_left(leaves, count),
-        },
+    // A pair is open: its closing word, with which a request leaves from its place.
+    fn closing(self, timing: Timing) -> Ticked
+        requires { self.clock < 16777216 }
+        ensures { ticked result ≡ closing timing self }
+    {
+        let place = self.opened.place();
+        let request = request_at(self.waiting, place.unwrap_or(0));
+        let words = self.opened.words(timing, request);
+        let stamps = self
+            .stamps
+            .remembered(timing.figures().four, self.clock, words);
+        Ticked {
+            answer: Ok(()),
+            word: words.second,
+            controller: Controller {
+                clock: self.clock + 1,
+                opened: OpenPair::Nothing,
+                stamps,
+                waiting: requests_left(self.waiting, self.count, place),
+                count: count_left(self.count, place),
+                ..self
+            },
+        }
     }
-}
 
-// A refused tick changes nothing and gives word 0.
-pub(crate) fn not_ticked(controller: Controller, why: Refusal) -> Ticked
-    ensures { ticked result ≡ not_ticked controller (refusal_number why) }
-{
-    Ticked {
-        answer: CallAnswer::Refused(why),
-        word: 0,
-        controller,
+    // A refused tick changes nothing and gives word 0.
+    pub(crate) fn not_ticked(self, why: Refusal) -> Ticked
+        ensures { ticked result ≡ not_ticked self (refusal_number why) }
+    {
+        Ticked {
+            answer: Err(why),
+            word: 0,
+            controller: self,
+        }
     }
 }
 
@@ -84,16 +71,15 @@ pub(crate) fn not_ticked(controller: Controller, why: Refusal) -> Ticked
 pub fn tick_choosing(timing: Timing, controller: Controller, place: u32) -> Ticked
     ensures { ticked result ≡ tick_choosing timing controller place }
 {
-    if !(past_fits(controller) & requests_fit(timing, controller)) {
-        return not_ticked(controller, Refusal::State);
+    if !controller.fits(timing) {
+        return controller.not_ticked(Refusal::State);
     }
     if LIMIT <= controller.clock {
-        return not_ticked(controller, Refusal::ClockLimit);
+        return controller.not_ticked(Refusal::ClockLimit);
     }
-    let opened = controller.opened;
-    if is_open(opened) {
-        closing(timing, controller)
+    if controller.opened.is_open() {
+        controller.closing(timing)
     } else {
-        starting(timing, controller, place)
+        controller.starting(timing, place)
     }
 }

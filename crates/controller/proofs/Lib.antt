@@ -1,2 +1,0 @@
--- What the proofs of both calls need.
-pub mod Parts
