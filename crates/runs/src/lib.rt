@@ -22,10 +22,8 @@ fn eight_agree(bytes: &[u8], at: usize, shift: u32, top: u32) -> bool
     ensures { result ≡ true → 8 ≤ leading shift top (drop at (words_of bytes.now)) }
 {
     let mut all = true;
-    let mut count: usize = 0;
-    while count < 8 {
-        all = all & agrees(bytes, at + count, shift, top);
-        count += 1;
+    for count in 0..8 {
+        all &= agrees(bytes, at + count, shift, top);
     }
     all
 }
@@ -38,29 +36,25 @@ fn leading(bytes: &[u8], at: usize, shift: u32, top: u32) -> usize
 {
     // A bit for each word that does not agree, the lowest for the first word.
     let mut marks: u32 = 0;
-    let mut count: u32 = 0;
-    while count < 16 {
-        if !agrees(bytes, at + count as usize, shift, top) {
-            marks = marks | 1 << count;
+    for count in 0..16 {
+        if !agrees(bytes, at + count, shift, top) {
+            marks |= 1 << count;
         }
-        count += 1;
     }
-    u32::trailing_zeros(marks | 0x10000) as usize
+    (marks | 0x10000).trailing_zeros() as usize
 }
 
 // Where a run ends, by one word a turn.
 fn past_singly(bytes: &[u8], from: usize, stop: usize, shift: u32, top: u32) -> usize
-    requires { (stop ≤ length bytes.now / 4) × (shift < 32) }
+    requires { (stop ≤ length bytes.now / 4) × (from ≤ stop) × (shift < 32) }
     ensures { result ≡ run_end shift top stop (words_of bytes.now) from }
 {
-    let mut at = from;
-    while at < stop {
+    for at in from..stop {
         if !agrees(bytes, at, shift, top) {
             return at;
         }
-        at += 1;
     }
-    at
+    stop
 }
 
 // An index from which the run ends where it does from the first, by eight words a turn.
@@ -78,19 +72,12 @@ fn past_eights(bytes: &[u8], from: usize, stop: usize, shift: u32, top: u32) -> 
     at
 }
 
-fn lesser(a: usize, b: usize) -> usize
-    ensures { result ≡ min a b }
-{
-    if a < b { a } else { b }
-}
-
 // Where the run from an index on ends, of words that are `top` without their lowest bits, as many as `shift` modulo 32. Up to sixteen
 // words are passed at once, which are most runs between commands; then eight a turn, and what is left one by one.
 pub fn past_run(bytes: &[u8], from: usize, end: usize, shift: u32, top: u32) -> usize
     ensures { result ≡ run_end (shift % 32) top end (words_of bytes.now) from }
 {
-    let count = bytes.len() / 4;
-    let stop = lesser(end, count);
+    let stop = end.min(bytes.len() / 4);
     let shift = shift % 32;
     if stop <= from {
         return from;
@@ -114,38 +101,31 @@ fn half_marks(bytes: &[u8], from: usize, shift: u32, top: u32) -> u32
     ensures { result ≡ marks shift top (words_of bytes.now) from 29 }
 {
     let start = 4 * from;
-    let end = start + 116;
-    let part = &bytes[start..end];
+    let part = &bytes[start..start + 116];
     let mut marks: u32 = 0;
-    let mut count: u32 = 0;
-    while count < 29 {
-        if !agrees(part, count as usize, shift, top) {
-            marks = marks | 1 << count;
+    for count in 0..29 {
+        if !agrees(part, count, shift, top) {
+            marks |= 1 << count;
         }
-        count += 1;
     }
     marks
 }
 
 // A bit for each of the 58 words from an index on that does not agree, where the bytes hold them all, and otherwise 0. Both halves are
-// asked for 0 before they are put together: else the compiler makes numbers of 64 bits of all bits, and tests two words at once.
+// asked for 0 before they are put together: else the compiler makes numbers of 64 bits of all bits, and tests two words at once. With
+// `u64::from` for `as` it tests fewer at once, too.
 pub fn marks_from(bytes: &[u8], from: usize, shift: u32, top: u32) -> u64
     ensures { result ≡ marks_from (shift % 32) top (words_of bytes.now) from }
 {
     let count = bytes.len() / 4;
     let shift = shift % 32;
-    if count < 58 {
-        return 0;
-    }
-    if count - 58 < from {
+    if count < 58 || count - 58 < from {
         return 0;
     }
     let low = half_marks(bytes, from, shift, top);
     let high = half_marks(bytes, from + 29, shift, top);
-    if low == 0 {
-        if high == 0 {
-            return 0;
-        }
+    if low == 0 && high == 0 {
+        return 0;
     }
     low as u64 + high as u64 * 0x20000000
 }

@@ -12,11 +12,9 @@ pub loop-count-preserved : goal.loop-count-preserved
 loop-count-preserved c =
     let l = c.loop-count in
     let a = c.args in
-    let ws = words_of a.bytes.now in (
-      omega arith,
-      λ e.
-          let h = both l.all c.agrees-all.result e in
-          let inside : a.at + l.count < length ws = rw (words-length a.bytes.now) (omega arith) in
-          let on = lead-on a.shift a.top ws (a.at + l.count) inside c.agrees-all.ensures h.1 in
-          omega (arith, lead-past a.shift a.top ws l.count a.at (l.invariant.1 h.0)),
-    )
+    let ws = words_of a.bytes.now in
+    λ e.
+    let h = both l.all c.agrees-all.result e in
+    let inside : a.at + l.count < length ws = rw (words-length a.bytes.now) (omega arith) in
+    let on = lead-on a.shift a.top ws (a.at + l.count) inside c.agrees-all.ensures h.1 in
+    omega (arith, lead-past a.shift a.top ws l.count a.at (l.invariant h.0))

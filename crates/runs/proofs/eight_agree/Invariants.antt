@@ -1,11 +1,8 @@
 -- As long as all agree, as many lead as were looked at.
-use Rattle.std.proofs.Common.{◌≡◌, true, ◌-◌, ◌≤◌, drop}
+use Rattle.std.proofs.Common.{◌≡◌, true, ◌≤◌, drop}
 use Rattle.words.specs.Words.{words_of}
 use Rattle.runs.specs.Runs.{leading}
 use Rattle.runs.proofs.eight_agree.Given as goal
 
 abbrev pub invariant-loop-count : goal.invariant-loop-count
-invariant-loop-count l = (l.count ≤ 8) × (l.all ≡ true → l.count ≤ leading l.shift l.top (drop l.at (words_of l.bytes)))
-
-abbrev pub decreases-loop-count : goal.decreases-loop-count
-decreases-loop-count l = 8 - l.count
+invariant-loop-count l = l.all ≡ true → l.count ≤ leading l.shift l.top (drop l.at (words_of l.bytes))

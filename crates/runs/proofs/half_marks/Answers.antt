@@ -10,7 +10,7 @@ use Rattle.runs.proofs.half_marks.Goals.{then-not-agrees, else-not-agrees}
 
 pub loop-count-init : goal.loop-count-init
 unfolding marks
-loop-count-init c = (omega arith, refl)
+loop-count-init c = refl
 
 pub loop-count-preserved : goal.loop-count-preserved
 loop-count-preserved c =
@@ -21,13 +21,11 @@ loop-count-preserved c =
     let size : 4 * a.from + 116 - 4 * a.from ≡ 4 * 29 = omega arith in
     let word = part-listed a.bytes.now a.from 29 l.count (omega arith) inside in
     let here : c.agrees.result ≡ agrees a.shift a.top (get_or ws (a.from + l.count) 0) =
-    c.agrees.ensures ∙ ap (agrees a.shift a.top) (rw size word) in (
-      omega arith,
-      elim c.if-not-agrees.branch [
-        | then-not-agrees w ↦
-            let fits : 2 ^ l.count < 2 ^ 32 = pow-lt {j = 32} (omega arith) in
-            let bit : 1 * 2 ^ l.count % 2 ^ 32 ≡ 1 * 2 ^ l.count = mod-eq_of_lt (omega arith) in
-            rw (w.marks-is, bit) (marks_off a.shift a.top ws a.from l.count l.invariant.1 here w.if-not-agrees.true)
-        | else-not-agrees w ↦ rw w.marks-is (marks-on a.shift a.top ws a.from l.count l.invariant.1 here w.if-not-agrees.false)
-      ],
-    )
+    c.agrees.ensures ∙ ap (agrees a.shift a.top) (rw size word) in
+    elim c.if-not-agrees.branch [
+      | then-not-agrees w ↦
+          let fits : 2 ^ l.count < 2 ^ 32 = pow-lt {j = 32} (omega arith) in
+          let bit : 1 * 2 ^ l.count % 2 ^ 32 ≡ 1 * 2 ^ l.count = mod-eq_of_lt (omega arith) in
+          rw (w.marks-is, bit) (marks_off a.shift a.top ws a.from l.count l.invariant here w.if-not-agrees.true)
+      | else-not-agrees w ↦ rw w.marks-is (marks-on a.shift a.top ws a.from l.count l.invariant here w.if-not-agrees.false)
+    ]

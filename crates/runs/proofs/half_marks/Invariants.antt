@@ -1,11 +1,8 @@
 -- Each turn marks one word.
-use Rattle.std.proofs.Common.{◌≡◌, ◌-◌, ◌≤◌}
+use Rattle.std.proofs.Common.{◌≡◌}
 use Rattle.words.specs.Words.{words_of}
 use Rattle.runs.specs.Runs.{marks}
 use Rattle.runs.proofs.half_marks.Given as goal
 
 abbrev pub invariant-loop-count : goal.invariant-loop-count
-invariant-loop-count l = (l.count ≤ 29) × (l.marks ≡ marks l.shift l.top (words_of l.bytes) l.from l.count)
-
-abbrev pub decreases-loop-count : goal.decreases-loop-count
-decreases-loop-count l = 29 - l.count
+invariant-loop-count l = l.marks ≡ marks l.shift l.top (words_of l.bytes) l.from l.count

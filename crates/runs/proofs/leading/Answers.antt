@@ -16,21 +16,19 @@ loop-count-preserved c =
     let inside : a.at + l.count < length ws = rw (words-length a.bytes.now) (omega arith) in
     let passed = lead-past a.shift a.top ws l.count a.at in
     let on = lead-on a.shift a.top ws (a.at + l.count) inside c.agrees.ensures in
-    let off = lead_off a.shift a.top ws (a.at + l.count) inside c.agrees.ensures in (
-      omega arith,
-      elim c.if-not-agrees.branch [
-        | then-not-agrees w ↦
-            let fits : 2 ^ l.count < 2 ^ 32 = pow-lt {j = 32} (omega arith) in
-            let bit : 1 * 2 ^ l.count % 2 ^ 32 ≡ 1 * 2 ^ l.count = mod-eq_of_lt (omega arith) in
-            rw (w.marks-is, bit)
-            (marked l.invariant.1 (lt_of_not-le (λ h. omega (arith, passed (omega arith), off w.if-not-agrees.true))))
-        | else-not-agrees w ↦
-            rw w.marks-is (unmarked l.invariant.1 (λ e. omega (arith, passed (omega arith), on w.if-not-agrees.false)))
-      ],
-    )
+    let off = lead_off a.shift a.top ws (a.at + l.count) inside c.agrees.ensures in
+    elim c.if-not-agrees.branch [
+      | then-not-agrees w ↦
+          let fits : 2 ^ l.count < 2 ^ 32 = pow-lt {j = 32} (omega arith) in
+          let bit : 1 * 2 ^ l.count % 2 ^ 32 ≡ 1 * 2 ^ l.count = mod-eq_of_lt (omega arith) in
+          rw (w.marks-is, bit)
+          (marked l.invariant (lt_of_not-le (λ h. omega (arith, passed (omega arith), off w.if-not-agrees.true))))
+      | else-not-agrees w ↦
+          rw w.marks-is (unmarked l.invariant (λ e. omega (arith, passed (omega arith), on w.if-not-agrees.false)))
+    ]
 
 pub returns : goal.returns
 returns c =
     let l = c.loop-count in
     let all : l.count ≡ 16 = omega arith in
-    sixteen (rw all at l.invariant.1)
+    sixteen (rw all at l.invariant)

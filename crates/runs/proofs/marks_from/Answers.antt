@@ -22,11 +22,6 @@ returns-then-count-lt58 c =
     let a = c.args in
     sym (marks_missing (a.shift % 32) a.top (words_of a.bytes.now) a.from (omega (arith, words-length a.bytes.now)))
 
-pub returns-then-count-from : goal.returns-then-count-from
-returns-then-count-from c =
-    let a = c.args in
-    sym (marks_missing (a.shift % 32) a.top (words_of a.bytes.now) a.from (omega (arith, words-length a.bytes.now)))
-
 pub returns-then-high-eq0 : goal.returns-then-high-eq0
 returns-then-high-eq0 c =
     let a = c.args in
