@@ -2,13 +2,11 @@
 use Prim.Native.Nat.{ℕ, ◌-◌}
 use mathlib.Core.Path.{◌≡◌, refl, sym, ◌∙◌, ap}
 use mathlib.Core.List.{List, [], ◌∷◌}
-use mathlib.Core.Option.{Option, none, some}
+use Rattle.std.specs.Prelude.{Option, Some, None, Result, Ok, Err}
 use lib.ListN.{get_or}
 use Rattle.basics.specs.Outcome.{Outcome, value, refused}
 use Rattle.basics.specs.Numbers.{refusal_number}
-use Rattle.config.specs.Answers.{timingOutcome}
-use Rattle.config.specs.declared.Timing.{Timing}
-use Rattle.config.specs.declared.TimingAnswer.{TimingAnswer}
+use Rattle.basics.specs.Answers.{outcome_of, outcome_by}
 use Rattle.basics.specs.declared.refusal.Refusal.{Refusal}
 use Rattle.basics.specs.declared.refusal.Refusal.TheVariants.{
   State,
@@ -28,31 +26,37 @@ use Rattle.basics.specs.declared.refusal.Refusal.TheVariants.{
   Wiring,
   Limits,
 }
-use Rattle.reading.specs.Answers.{readOutcome}
-use Rattle.writing.specs.Answers.{writeOutcome}
-use Rattle.command.specs.declared.operation.Pair.{Pair}
-use Rattle.reading.specs.declared.Decoded.{Decoded}
-use Rattle.reading.specs.declared.ReadAnswer.{ReadAnswer}
-use Rattle.writing.specs.declared.WriteAnswer.{WriteAnswer}
 use Rattle.rules.specs.Verdict.{Judgement, accepted, breach}
-use Rattle.checker.specs.Steps.{verdict_outcome}
-use Rattle.checker.specs.declared.checker.Verdict.{Verdict}
-use Rattle.limits.specs.Limits.{Finding, always, breach_on}
-use Rattle.limits.specs.Answers.{findingOutcome}
-use Rattle.limits.specs.declared.LimitsAnswer.{LimitsAnswer}
-use Rattle.duration.specs.Answers.{durationOutcome}
-use Rattle.duration.specs.declared.Duration.{Duration}
-use Rattle.duration.specs.declared.DurationAnswer.{DurationAnswer}
+use Rattle.checker.specs.Steps.{judgement_of, verdict_outcome}
+use Rattle.checker.specs.declared.checker.Breach.{Breach}
+use Rattle.limits.specs.Limits.{Finding, always, breach_on, finding_of, finding_outcome}
+use Rattle.limits.specs.declared.BreachOn.{BreachOn}
 use Rattle.rules.specs.Turns.{Turn, closed, single}
 use Rattle.turns.specs.OneTurn.{turn_outcome}
-use Rattle.turns.specs.declared.TurnAnswer.{TurnAnswer}
+use Rattle.turns.specs.declared.TurnWords.{TurnWords}
 use Rattle.counts.specs.Counts.{counting_outcome}
 use Rattle.counts.specs.declared.CommandCounts.{CommandCounts}
-use Rattle.counts.specs.declared.CountsAnswer.{CountsAnswer}
+use Rattle.counts.specs.declared.Uncounted.{Uncounted}
 use Rattle.controller.specs.Steps.{call_outcome}
-use Rattle.controller.specs.declared.CallAnswer.{CallAnswer}
-use Rattle.walks.specs.Walk.{Reached, passed, breached, ended, progress_outcome}
+use Rattle.walks.specs.Walk.{Reached, passed, breached, ended, reached_of, progress_outcome}
 use Rattle.walks.specs.declared.Progress.{Progress}
+use Rattle.early.specs.Answers.{breach_number}
+use Rattle.early.specs.declared.rule.Rule.{Rule}
+use Rattle.early.specs.declared.rule.Rule.TheVariants.{
+  StrayBit,
+  LowPd,
+  RefreshOverdue,
+  WrongMode,
+  ReservedLane,
+  NotReady,
+  SameBank,
+  TooClose,
+  AfterMode,
+  AfterRefresh,
+  Busy,
+  RefreshWindow,
+  SelectedAtExit,
+}
 use Rattle.excluded.specs.Excluded.{Injective, Answers}
 
 inverted : {A B : Type 0} (f : A → B) (back : B → A) → ((x : A) → back (f x) ≡ x) → Injective f
@@ -61,30 +65,30 @@ inverted f back h x y e = sym (h x) ∙ ap back e ∙ h y
 -- the refusal of a number, from 19 on
 abbrev refusals : List (Option Refusal)
 refusals =
-    none
-    ∷ some State
-    ∷ some Part
-    ∷ some Period
-    ∷ some Count
-    ∷ some InBreach
-    ∷ some ClockLimit
-    ∷ some InputSize
-    ∷ some Field
-    ∷ some QueueFull
-    ∷ some NotAPair
-    ∷ some PartialWord
-    ∷ some TooLong
-    ∷ none
-    ∷ some WordCount
-    ∷ some ShortRefresh
-    ∷ some Wiring
-    ∷ some Limits
+    None
+    ∷ Some State
+    ∷ Some Part
+    ∷ Some Period
+    ∷ Some Count
+    ∷ Some InBreach
+    ∷ Some ClockLimit
+    ∷ Some InputSize
+    ∷ Some Field
+    ∷ Some QueueFull
+    ∷ Some NotAPair
+    ∷ Some PartialWord
+    ∷ Some TooLong
+    ∷ None
+    ∷ Some WordCount
+    ∷ Some ShortRefresh
+    ∷ Some Wiring
+    ∷ Some Limits
     ∷ []
 
 abbrev named : ℕ → Option Refusal
-named n = get_or refusals (n - 18) none
+named n = get_or refusals (n - 18) None
 
-named-is : (r : Refusal) → named (refusal_number r) ≡ some r
+named-is : (r : Refusal) → named (refusal_number r) ≡ Some r
 named-is State = refl
 named-is Part = refl
 named-is Period = refl
@@ -102,147 +106,149 @@ named-is ShortRefresh = refl
 named-is Wiring = refl
 named-is Limits = refl
 
-abbrev orState : Option Refusal → Refusal
-orState none = State
-orState (some r) = r
+abbrev or_state : Option Refusal → Refusal
+or_state None = State
+or_state (Some r) = r
 
 abbrev refusal : ℕ → Refusal
-refusal n = orState (named n)
+refusal n = or_state (named n)
 
 refusal_is : (r : Refusal) → refusal (refusal_number r) ≡ r
-refusal_is r = ap orState (named-is r)
+refusal_is r = ap or_state (named-is r)
 
-timing : Outcome Timing → TimingAnswer
-timing (value t) = TimingAnswer.Accepted t
-timing (refused n) = TimingAnswer.Refused (refusal n)
+-- the answer of an outcome, by what its value is an answer's
+abbrev answer : {A B : Type 0} → (B → A) → Outcome B → Result A Refusal
+answer back (value b) = Ok (back b)
+answer back (refused n) = Err (refusal n)
 
-timing-is : (x : TimingAnswer) → timing (timingOutcome x) ≡ x
-unfolding timing
-timing-is (TimingAnswer.Accepted t) = refl
-timing-is (TimingAnswer.Refused r) = ap TimingAnswer.Refused (refusal_is r)
+-- an answer is told by its outcome if its value is told by what that is in the paper's terms
+same_by : {A B : Type 0} (f : A → B) (back : B → A) → ((a : A) → back (f a) ≡ a) → Injective (outcome_by f)
+same_by {A} f back h = inverted (outcome_by f) (answer back) by
+  where
+    by : (x : Result A Refusal) → answer back (outcome_by f x) ≡ x
+    by (Ok a) = ap Ok (h a)
+    by (Err r) = ap Err (refusal_is r)
 
-read : Outcome Decoded → ReadAnswer
-read (value d) = ReadAnswer.Read d
-read (refused n) = ReadAnswer.Refused (refusal n)
+same_of : {A : Type 0} → Injective (outcome_of {A = A})
+same_of {A} = inverted outcome_of (answer (λ a. a)) by
+  where
+    by : (x : Result A Refusal) → answer (λ a. a) (outcome_of x) ≡ x
+    by (Ok a) = refl
+    by (Err r) = ap Err (refusal_is r)
 
-read_is : (x : ReadAnswer) → read (readOutcome x) ≡ x
-unfolding read
-read_is (ReadAnswer.Read d) = refl
-read_is (ReadAnswer.Refused r) = ap ReadAnswer.Refused (refusal_is r)
+-- the rule of a number, none of 0
+abbrev rules : List (Option Rule)
+rules =
+    None
+    ∷ Some StrayBit
+    ∷ Some LowPd
+    ∷ Some RefreshOverdue
+    ∷ Some WrongMode
+    ∷ Some ReservedLane
+    ∷ Some NotReady
+    ∷ Some SameBank
+    ∷ Some TooClose
+    ∷ Some AfterMode
+    ∷ Some AfterRefresh
+    ∷ Some Busy
+    ∷ Some RefreshWindow
+    ∷ Some SelectedAtExit
+    ∷ []
 
-write : Outcome Pair → WriteAnswer
-write (value p) = WriteAnswer.Written p
-write (refused n) = WriteAnswer.Refused (refusal n)
+breach_is : (x : Option Rule) → get_or rules (breach_number x) None ≡ x
+breach_is None = refl
+breach_is (Some StrayBit) = refl
+breach_is (Some LowPd) = refl
+breach_is (Some RefreshOverdue) = refl
+breach_is (Some WrongMode) = refl
+breach_is (Some ReservedLane) = refl
+breach_is (Some NotReady) = refl
+breach_is (Some SameBank) = refl
+breach_is (Some TooClose) = refl
+breach_is (Some AfterMode) = refl
+breach_is (Some AfterRefresh) = refl
+breach_is (Some Busy) = refl
+breach_is (Some RefreshWindow) = refl
+breach_is (Some SelectedAtExit) = refl
 
-write-is : (x : WriteAnswer) → write (writeOutcome x) ≡ x
-unfolding write
-write-is (WriteAnswer.Written p) = refl
-write-is (WriteAnswer.Refused r) = ap WriteAnswer.Refused (refusal_is r)
+first_breach : Judgement → Option Breach
+first_breach accepted = None
+first_breach (breach k n) = Some (record { clock = k; number = n })
 
-verdict : Outcome Judgement → Verdict
-verdict (value accepted) = Verdict.Accepted
-verdict (value (breach k n)) = Verdict.InBreach (record { clock = k; number = n })
-verdict (refused n) = Verdict.Refused (refusal n)
+judgement_is : (x : Option Breach) → first_breach (judgement_of x) ≡ x
+unfolding first_breach
+judgement_is None = refl
+judgement_is (Some b) = refl
 
-verdict-is : (x : Verdict) → verdict (verdict_outcome x) ≡ x
-unfolding verdict
-verdict-is Verdict.Accepted = refl
-verdict-is (Verdict.InBreach b) = refl
-verdict-is (Verdict.Refused r) = ap Verdict.Refused (refusal_is r)
+found : Finding → Option BreachOn
+found always = None
+found (breach_on c k n) = Some (record { sheet = c; breach = record { clock = k; number = n } })
 
-within : Outcome Finding → LimitsAnswer
-within (value always) = LimitsAnswer.Always
-within (value (breach_on c k n)) = LimitsAnswer.InBreach c (record { clock = k; number = n })
-within (refused n) = LimitsAnswer.Refused (refusal n)
-
-within-is : (x : LimitsAnswer) → within (findingOutcome x) ≡ x
-unfolding within
-within-is LimitsAnswer.Always = refl
-within-is (LimitsAnswer.InBreach c b) = refl
-within-is (LimitsAnswer.Refused r) = ap LimitsAnswer.Refused (refusal_is r)
-
-duration : Outcome Duration → DurationAnswer
-duration (value d) = DurationAnswer.Lasts d
-duration (refused n) = DurationAnswer.Refused (refusal n)
-
-duration-is : (x : DurationAnswer) → duration (durationOutcome x) ≡ x
-unfolding duration
-duration-is (DurationAnswer.Lasts d) = refl
-duration-is (DurationAnswer.Refused r) = ap DurationAnswer.Refused (refusal_is r)
+finding-is : (x : Option BreachOn) → found (finding_of x) ≡ x
+unfolding found
+finding-is None = refl
+finding-is (Some b) = refl
 
 -- number 0 is no refusal's
-counted : Option Refusal → CommandCounts → CountsAnswer
-counted none c = CountsAnswer.Counted c
-counted (some r) c = CountsAnswer.Refused r c
+counted : Option Refusal → CommandCounts → Result CommandCounts Uncounted
+counted None c = Ok c
+counted (Some r) c = Err (record { why = r; counts = c })
 
-counting-is : (x : CountsAnswer) → counted (named (counting_outcome x).number) (counting_outcome x).counts ≡ x
+counting-is : (x : Result CommandCounts Uncounted) → counted (named (counting_outcome x).number) (counting_outcome x).counts ≡ x
 unfolding counted
-counting-is (CountsAnswer.Counted c) = refl
-counting-is (CountsAnswer.Refused r c) = ap (λ o. counted o c) (named-is r)
+counting-is (Ok c) = refl
+counting-is (Err u) = ap (λ o. counted o u.counts) (named-is u.why)
 
-turned : List Turn → ℕ → TurnAnswer
-turned [] n = TurnAnswer.End
-turned (closed p ∷ xs) n = TurnAnswer.Closed (record { first = p.first; second = p.second }) n
-turned (single k w ∷ xs) n = TurnAnswer.Single w n
+turned : List Turn → ℕ → Option (TurnWords × ℕ)
+turned [] n = None
+turned (closed p ∷ xs) n = Some (TurnWords.Closed (record { first = p.first; second = p.second }), n)
+turned (single k w ∷ xs) n = Some (TurnWords.Single w, n)
 
-turned-is : (at : ℕ) (x : TurnAnswer) → turned (turn_outcome at x).turn (turn_outcome at x).next ≡ x
+turned-is : (at : ℕ) (x : Option (TurnWords × ℕ)) → turned (turn_outcome at x).turn (turn_outcome at x).next ≡ x
 unfolding turned
-turned-is at (TurnAnswer.Closed p n) = refl
-turned-is at (TurnAnswer.Single w n) = refl
-turned-is at TurnAnswer.End = refl
+turned-is at (Some (TurnWords.Closed p, n)) = refl
+turned-is at (Some (TurnWords.Single w, n)) = refl
+turned-is at None = refl
 
-call : Outcome (Unit {0}) → CallAnswer
-call (value u) = CallAnswer.Accepted
-call (refused n) = CallAnswer.Refused (refusal n)
+progress : Reached → Progress
+progress passed = Progress.Passed
+progress (breached k n) = Progress.InBreach (record { clock = k; number = n })
+progress ended = Progress.End
 
-call-is : (x : CallAnswer) → call (call_outcome x) ≡ x
-unfolding call
-call-is CallAnswer.Accepted = refl
-call-is (CallAnswer.Refused r) = ap CallAnswer.Refused (refusal_is r)
-
-progress : Outcome Reached → Progress
-progress (value passed) = Progress.Passed
-progress (value (breached k n)) = Progress.InBreach (record { clock = k; number = n })
-progress (value ended) = Progress.End
-progress (refused n) = Progress.Refused (refusal n)
-
-progress-is : (x : Progress) → progress (progress_outcome x) ≡ x
+progress-is : (x : Progress) → progress (reached_of x) ≡ x
 unfolding progress
 progress-is Progress.Passed = refl
 progress-is (Progress.InBreach b) = refl
-progress-is (Progress.Refused r) = ap Progress.Refused (refusal_is r)
 progress-is Progress.End = refl
 
 same-verdict : Injective verdict_outcome
-same-verdict = inverted verdict_outcome verdict verdict-is
-
-same-call : Injective call_outcome
-same-call = inverted call_outcome call call-is
+same-verdict = same_by judgement_of first_breach judgement_is
 
 pub same-counting : Injective counting_outcome
 same-counting = inverted counting_outcome (λ k. counted (named k.number) k.counts) counting-is
 
 pub same-progress : Injective progress_outcome
-same-progress = inverted progress_outcome progress progress-is
+same-progress = same_by reached_of progress progress-is
 
 pub answers : Answers
 answers =
     record {
       refusal = inverted refusal_number refusal refusal_is;
-      timing = inverted timingOutcome timing timing-is;
-      read = inverted readOutcome read read_is;
-      write = inverted writeOutcome write write-is;
+      breach = inverted breach_number (λ n. get_or rules n None) breach_is;
+      timing = same_of;
+      read = same_of;
+      write = same_of;
       verdict = same-verdict;
       step = λ x y e i. record { verdict = same-verdict x.verdict y.verdict (ap (λ r. r.outcome) e) i; checker = (e i).after };
-      within = inverted findingOutcome within within-is;
-      duration = inverted durationOutcome duration duration-is;
+      within = same_by finding_of found finding-is;
+      duration = same_of;
       counting = same-counting;
       turn = λ at. inverted (turn_outcome at) (λ r. turned r.turn r.next) (turned-is at);
-      call = same-call;
-      offer = λ x y e i. record { answer = same-call x.answer y.answer (ap (λ r. r.outcome) e) i; controller = (e i).after };
+      call = same_of;
+      offer = λ x y e i. record { answer = same_of x.answer y.answer (ap (λ r. r.outcome) e) i; controller = (e i).after };
       tick =
           λ x y e i.
-          record { answer = same-call x.answer y.answer (ap (λ r. r.outcome) e) i; word = (e i).word; controller = (e i).after };
+          record { answer = same_of x.answer y.answer (ap (λ r. r.outcome) e) i; word = (e i).word; controller = (e i).after };
       progress = same-progress;
       move = λ x y e i. record { progress = same-progress x.progress y.progress (ap (λ r. r.outcome) e) i; checker = (e i).after };
     }

@@ -18,7 +18,9 @@ use Rattle.rules.specs.Breaches.{word_breach}
 use Rattle.consistency.specs.Consistency.{clock_fits}
 use Rattle.checker.specs.Steps.{Step, verdict_outcome, fresh, refusing, judged, step_by, step_of}
 use Rattle.checker.specs.declared.checker.Checker.{Checker}
-use Rattle.checker.specs.declared.checker.Verdict.{Verdict}
+use Rattle.checker.specs.declared.checker.Breach.{Breach}
+use Rattle.basics.specs.declared.refusal.Refusal.{Refusal}
+use Rattle.std.specs.Prelude.{Option, Some, None, Result, Ok}
 use Rattle.checker.proofs.Refinement.{cond_case}
 use Rattle.excluded.specs.Excluded.{NoStep, wrong_mode, wrong_mode_bytes, Examiners}
 
@@ -74,7 +76,7 @@ step_moves s w =
     (λ _. record { passes = λ _. refl; stays = λ h. absurd (h refl); records = λ e _. accepted-breach e })
     (λ some. record { passes = λ e. absurd (breach-accepted e); stays = λ _. refl; records = λ _ e. eqb-false n 0 some (e ∙ free) }))
 
-no_step : (s after : Checker) (w : ℕ) (v : Verdict) → ((step_of s w).outcome ≡ verdict_outcome v → (step_of s w).after ≡ after → ⊥)
+no_step : (s after : Checker) (w : ℕ) (v : Result (Option Breach) Refusal) → ((step_of s w).outcome ≡ verdict_outcome v → (step_of s w).after ≡ after → ⊥)
     → NoStep s w v after
 no_step s after w v h e = h (sym (ap (λ r. r.outcome) e)) (sym (ap (λ r. r.after) e))
 
@@ -85,7 +87,7 @@ examiners =
       bytes_accept = λ c bytes e. breach-accepted (bytes-judge c (0 ∷ 0 ∷ 0 ∷ 0 ∷ bytes) e).1;
       step-accepts =
           λ s after.
-          no_step s after 0x100000 Verdict.Accepted
+          no_step s after 0x100000 (Ok None)
           (λ e _. step_case (λ r. r.outcome ≡ value accepted → ⊥) s 0x100000 (λ n. refused-value) (λ t _. breach-accepted) e);
       check_breaches =
           λ c n b e.
@@ -97,11 +99,11 @@ examiners =
           accepted-breach (sym (ap value (ap (judge j.0) is ∙ desls_pass j.0 n 0)) ∙ j.1);
       step_breaches =
           λ c b after.
-          no_step (fresh c) after 0xC0000 (Verdict.InBreach b)
-          (λ e _. step_case (λ r. r.outcome ≡ verdict_outcome (Verdict.InBreach b) → ⊥) (fresh c) 0xC0000 (λ n. refused-value)
+          no_step (fresh c) after 0xC0000 (Ok (Some b))
+          (λ e _. step_case (λ r. r.outcome ≡ verdict_outcome (Ok (Some b)) → ⊥) (fresh c) 0xC0000 (λ n. refused-value)
           (λ t _. accepted-breach) e);
-      step_stays = λ s after w h. no_step s after w Verdict.Accepted (λ o e. h (sym (ap (λ k. k.clock) e) ∙ (step_moves s w).passes o));
-      step-stays_in_breach = λ s w b. no_step s s w (Verdict.InBreach b) (λ o e. (step_moves s w).records o (ap (λ k. k.breach.number) e));
+      step_stays = λ s after w h. no_step s after w (Ok None) (λ o e. h (sym (ap (λ k. k.clock) e) ∙ (step_moves s w).passes o));
+      step-stays_in_breach = λ s w b. no_step s s w (Ok (Some b)) (λ o e. (step_moves s w).records o (ap (λ k. k.breach.number) e));
       check-stays = λ c t v e p. breach-accepted {k = 1} {n = 4} (check_judges c wrong_mode (sym e ∙ p)).1;
       bytes_stay = λ c t v e p. breach-accepted {k = 1} {n = 4} (bytes-judge c wrong_mode_bytes (sym e ∙ p)).1;
     }

@@ -13,11 +13,12 @@ use Rattle.config.specs.declared.Timing.{Timing}
 use Rattle.config.proofs.Accepted.{accepted, timing-is, config-below}
 use Rattle.counts.specs.Counts.{counts_of, no_counts, counting, counting_outcome}
 use Rattle.counts.specs.declared.CommandCounts.{CommandCounts}
-use Rattle.counts.specs.declared.CountsAnswer.{CountsAnswer}
+use Rattle.counts.specs.declared.Uncounted.{Uncounted}
+use Rattle.std.specs.Prelude.{Result, Ok, Err}
 use Rattle.excluded.specs.Excluded.{NoTally, Tallies}
 use Rattle.excluded.proofs.Answers.{same-counting}
 
-no_tally : (s : Config) (ws : List ℕ) (a : CountsAnswer) → (counting_outcome a ≡ counting (value (counts_of (derived s) ws)) → ⊥)
+no_tally : (s : Config) (ws : List ℕ) (a : Result CommandCounts Uncounted) → (counting_outcome a ≡ counting (value (counts_of (derived s) ws)) → ⊥)
     → ((n : ℕ) → (0 ≡ n → ⊥) → counting_outcome a ≡ counting (refused n) → ⊥) → NoTally s ws a
 no_tally s ws a counts refuses = by-config (timing_of s) refl
   where
@@ -30,9 +31,9 @@ no_tally s ws a counts refuses = by-config (timing_of s) refl
     by-config (refused n) e = rw e (refuses n (λ z. config-below s 0 (omega arith) (e ∙ ap refused (sym z))))
 
 invented : (s : Config) (ws : List ℕ) (c : CommandCounts) (count : CommandCounts → ℕ) → (count c ≡ count (counts_of (derived s) ws) → ⊥)
-    → NoTally s ws (CountsAnswer.Counted c)
+    → NoTally s ws (Ok c)
 invented s ws c count h =
-    no_tally s ws (CountsAnswer.Counted c) (λ e. h (ap (λ k. count k.counts) e)) (λ n positive e. positive (ap (λ k. k.number) e))
+    no_tally s ws (Ok c) (λ e. h (ap (λ k. count k.counts) e)) (λ n positive e. positive (ap (λ k. k.number) e))
 
 pub tallies : Tallies
 tallies =
@@ -40,8 +41,8 @@ tallies =
       invented = invented;
       invented-refused =
           λ s ws why c count h.
-          no_tally s ws (CountsAnswer.Refused why c)
-          (λ e. let same = same-counting (CountsAnswer.Refused why c) (CountsAnswer.Counted (counts_of (derived s) ws)) e in
+          no_tally s ws (Err (record { why = why; counts = c }))
+          (λ e. let same = same-counting (Err (record { why = why; counts = c })) (Ok (counts_of (derived s) ws)) e in
           let z : ◌≡◌ {A = ℕ} 0 1 = cc same in
           omega arith)
           (λ n positive e. h (ap (λ k. count k.counts) e));

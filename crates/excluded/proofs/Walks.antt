@@ -15,6 +15,8 @@ use Rattle.checker.specs.Steps.{step_of}
 use Rattle.checker.specs.declared.checker.Checker.{Checker}
 use Rattle.walks.specs.Walk.{passed, ended, progress_outcome, of_word, at_end}
 use Rattle.walks.specs.declared.Progress.{Progress}
+use Rattle.basics.specs.declared.refusal.Refusal.{Refusal}
+use Rattle.std.specs.Prelude.{Result, Ok}
 use Rattle.excluded.specs.Excluded.{NoMove, Walks}
 use Rattle.excluded.proofs.Answers.{same-progress}
 use Rattle.checker.proofs.Refinement.{cond_case}
@@ -39,7 +41,7 @@ end-passed s e =
     omega arith
 
 -- no such answer at a word, by the step on it, and none where no word is left
-no_move : (s after : Checker) (ws : List ℕ) (p : Progress)
+no_move : (s after : Checker) (ws : List ℕ) (p : Result Progress Refusal)
     → (s.clock < length ws → let r = step_of s (get_or ws s.clock 0) in
     of_word r.outcome ≡ progress_outcome p → after.clock ≡ r.after.clock → ⊥)
     → (length ws ≤ s.clock → at_end s ≡ progress_outcome p → after.clock ≡ s.clock → ⊥) → NoMove s ws p after
@@ -53,23 +55,23 @@ walks =
     record {
       end-early =
           λ s after ws h.
-          no_move s after ws Progress.End
+          no_move s after ws (Ok Progress.End)
           (λ _ e _. word-ends (step_of s (get_or ws s.clock 0)).outcome e)
           (λ l _ _. omega arith);
       end_unsaid =
           λ s after ws t p h is fits other.
           no_move s after ws p
           (λ l _ _. omega arith)
-          (λ _ e _. other (same-progress p Progress.End (sym e ∙ rw (is, fits))));
+          (λ _ e _. other (same-progress p (Ok Progress.End) (sym e ∙ rw (is, fits))));
       passed-place =
           λ s after ws h.
-          no_move s after ws Progress.Passed
+          no_move s after ws (Ok Progress.Passed)
           (λ _ o e. let w = get_or ws s.clock 0 in h (e ∙ (step_moves s w).passes (word-passed (step_of s w).outcome o)))
           (λ _ o _. end-passed s o);
       other_place =
           λ s after ws p other h.
           no_move s after ws p
           (λ _ o e. let w = get_or ws s.clock 0 in
-          h (e ∙ (step_moves s w).stays (λ q. other (same-progress p Progress.Passed (sym o ∙ ap of_word q)))))
+          h (e ∙ (step_moves s w).stays (λ q. other (same-progress p (Ok Progress.Passed) (sym o ∙ ap of_word q)))))
           (λ _ _ e. h e);
     }

@@ -1,17 +1,18 @@
 -- The wrong programs of the paper's section "What a reviewer will try, in order": what each would give, and that a contract, or demand 3,
 -- excludes it.
-use Rattle.std.specs.Prelude.{ℕ, zero, suc, ◌+◌, ◌≤◌, ◌<◌, ◌≡◌, true, false, List, [], ◌∷◌, ◌++◌, length, get_or, replicate}
+use Rattle.std.specs.Prelude.{ℕ, zero, suc, ◌+◌, ◌≤◌, ◌<◌, ◌≡◌, true, false, Option, Some, None, Result, Ok, Err, List, [], ◌∷◌, ◌++◌, length, get_or, replicate}
 use Rattle.command.specs.Pairs.{desl}
 use Rattle.basics.specs.Outcome.{value}
 use Rattle.basics.specs.Numbers.{refusal_number, limit}
-use Rattle.config.specs.Answers.{timingOutcome}
+use Rattle.basics.specs.Answers.{outcome_of}
 use Rattle.config.specs.Configuration.{institute, derived, timing_of}
 use Rattle.config.specs.declared.Config.{Config}
 use Rattle.config.specs.declared.Timing.{Timing}
 use Rattle.basics.specs.declared.refusal.Refusal.{Refusal}
 use Rattle.basics.specs.declared.refusal.Refusal.TheVariants.{ClockLimit, Field, QueueFull}
-use Rattle.reading.specs.Answers.{readOutcome}
-use Rattle.writing.specs.Answers.{writeOutcome}
+use Rattle.early.specs.Answers.{rule_number, breach_number}
+use Rattle.reading.specs.declared.Decoded.{Decoded}
+use Rattle.command.specs.declared.operation.Pair.{Pair}
 use Rattle.writing.specs.Writing.{request_fits}
 use Rattle.command.specs.declared.operation.Request.{Request}
 use Rattle.words.specs.Words.{words_of}
@@ -23,17 +24,15 @@ use Rattle.consistency.specs.Consistency.{clock_fits}
 use Rattle.checker.specs.Steps.{verdict_outcome, stepped, fresh, step_of}
 use Rattle.checker.specs.declared.checker.Breach.{Breach}
 use Rattle.checker.specs.declared.checker.Checker.{Checker}
-use Rattle.checker.specs.declared.checker.Verdict.{Verdict}
-use Rattle.limits.specs.Answers.{findingOutcome}
-use Rattle.duration.specs.Answers.{durationOutcome}
+use Rattle.limits.specs.Limits.{finding_outcome}
+use Rattle.duration.specs.declared.Duration.{Duration}
 use Rattle.turns.specs.OneTurn.{turn_outcome}
 use Rattle.counts.specs.Counts.{counts_of, no_counts, counting_outcome, counting_of}
 use Rattle.counts.specs.declared.CommandCounts.{CommandCounts}
-use Rattle.counts.specs.declared.CountsAnswer.{CountsAnswer}
+use Rattle.counts.specs.declared.Uncounted.{Uncounted}
 use Rattle.queue.specs.Queue.{vacant}
 use Rattle.controller.specs.Steps.{held, call_outcome, offered, ticked}
 use Rattle.controller.specs.declared.Controller.{Controller}
-use Rattle.controller.specs.declared.CallAnswer.{CallAnswer}
 use Rattle.rules.specs.Turns.{pairs_of, starts}
 use Rattle.model.specs.Runs.{Call, offer, tick, Accepted, Run, latest_start}
 use Rattle.model.specs.Demand3.{put_out, taken, InOrder, Prompt}
@@ -98,16 +97,20 @@ pub record Controllers : Type 0 where
   pub request_lost : (t : Timing) (r : Run) → length (put_out t r) + length (held r.controller) < length (taken r) → InOrder t r → ⊥
   -- an offer that refuses 27 with a place open, and one that refuses 26 to a request in range: of any state, and of either form of the
   -- call
-  pub offer-27 : (s after : Controller) (q : Request) → s.count < 16 → Never s (offer q) (CallAnswer.Refused QueueFull) 0 after
+  pub offer-27 : (s after : Controller) (q : Request) → s.count < 16 → Never s (offer q) (Err QueueFull) 0 after
   pub offer-26 : (s after : Controller) (q : Request) (t : Timing) → timing_of s.config ≡ value t → request_fits t q ≡ true
-      → Never s (offer q) (CallAnswer.Refused Field) 0 after
+      → Never s (offer q) (Err Field) 0 after
   -- a tick that refuses 24 before its clock
-  pub tick-24 : (s after : Controller) (word : ℕ) → s.clock < limit → Never s tick (CallAnswer.Refused ClockLimit) word after
+  pub tick-24 : (s after : Controller) (word : ℕ) → s.clock < limit → Never s tick (Err ClockLimit) word after
   -- an offer or a tick that is accepted where its refusal is due
-  pub offer-past-27 : (s after : Controller) (q : Request) → 16 ≤ s.count → Never s (offer q) CallAnswer.Accepted 0 after
+  pub offer-past-27 : (s after : Controller) (q : Request) → 16 ≤ s.count → Never s (offer q) (Ok tt) 0 after
   pub offer-past-26 : (s after : Controller) (q : Request) (t : Timing) → timing_of s.config ≡ value t → request_fits t q ≡ false
-      → Never s (offer q) CallAnswer.Accepted 0 after
-  pub tick-past-24 : (s after : Controller) (word : ℕ) → limit ≤ s.clock → Never s tick CallAnswer.Accepted word after
+      → Never s (offer q) (Ok tt) 0 after
+  pub tick-past-24 : (s after : Controller) (word : ℕ) → limit ≤ s.clock → Never s tick (Ok tt) word after
+
+-- what a check or a step answers
+abbrev Verdict : Type 0
+Verdict = Result (Option Breach) Refusal
 
 -- no contract lets the check of words answer so
 abbrev pub NoCheck : Config → List ℕ → Verdict → Type 0
@@ -138,55 +141,55 @@ wrong_mode_bytes = 0x00 ∷ 0x00 ∷ 0x0A ∷ 0x00 ∷ 0x80 ∷ 0x00 ∷ 0x08 �
 pub record Examiners : Type 0 where
   -- one that accepts everything: word 0 goes low with CS low, so no trace that begins with it passes; a word with bit 20 set passes at
   -- no state
-  pub check-accepts : (c : Config) (ws : List ℕ) → NoCheck c (0 ∷ ws) Verdict.Accepted
-  pub bytes_accept : (c : Config) (bytes : List ℕ) → NoCheckBytes c (0 ∷ 0 ∷ 0 ∷ 0 ∷ bytes) Verdict.Accepted
-  pub step-accepts : (s after : Checker) → NoStep s 0x100000 Verdict.Accepted after
+  pub check-accepts : (c : Config) (ws : List ℕ) → NoCheck c (0 ∷ ws) (Ok None)
+  pub bytes_accept : (c : Config) (bytes : List ℕ) → NoCheckBytes c (0 ∷ 0 ∷ 0 ∷ 0 ∷ bytes) (Ok None)
+  pub step-accepts : (s after : Checker) → NoStep s 0x100000 (Ok None) after
   -- one that finds a breach in everything: DESL alone, none or any number of them, is in no breach
-  pub check_breaches : (c : Config) (n : ℕ) (b : Breach) → NoCheck c (replicate n desl) (Verdict.InBreach b)
+  pub check_breaches : (c : Config) (n : ℕ) (b : Breach) → NoCheck c (replicate n desl) (Ok (Some b))
   pub bytes-breach : (c : Config) (bytes : List ℕ) (n : ℕ) (b : Breach) → words_of bytes ≡ replicate n desl
-      → NoCheckBytes c bytes (Verdict.InBreach b)
-  pub step_breaches : (c : Config) (b : Breach) (after : Checker) → NoStep (fresh c) desl (Verdict.InBreach b) after
+      → NoCheckBytes c bytes (Ok (Some b))
+  pub step_breaches : (c : Config) (b : Breach) (after : Checker) → NoStep (fresh c) desl (Ok (Some b)) after
   -- one that does not leave its first state: at a word that passes the clock goes one on, and a breach changes the state too
-  pub step_stays : (s after : Checker) (w : ℕ) → (after.clock ≡ s.clock + 1 → ⊥) → NoStep s w Verdict.Accepted after
-  pub step-stays_in_breach : (s : Checker) (w : ℕ) (b : Breach) → NoStep s w (Verdict.InBreach b) s
+  pub step_stays : (s after : Checker) (w : ℕ) → (after.clock ≡ s.clock + 1 → ⊥) → NoStep s w (Ok None) after
+  pub step-stays_in_breach : (s : Checker) (w : ℕ) (b : Breach) → NoStep s w (Ok (Some b)) s
   pub check-stays : (c : Config) (t : Timing) (v : Verdict) → verdict_outcome v ≡ value (by_first_state t wrong_mode)
       → NoCheck c wrong_mode v
   pub bytes_stay : (c : Config) (t : Timing) (v : Verdict) → verdict_outcome v ≡ value (by_first_state t wrong_mode)
       → NoCheckBytes c wrong_mode_bytes v
 
 -- no contract lets the tally answer so
-abbrev pub NoTally : Config → List ℕ → CountsAnswer → Type 0
+abbrev pub NoTally : Config → List ℕ → Result CommandCounts Uncounted → Type 0
 NoTally s ws a = counting_outcome a ≡ counting_of s ws → ⊥
 
 -- wrong tallies, on any sheet
 pub record Tallies : Type 0 where
   -- one that invents counts: whichever of the counts differs, on any words
   pub invented : (s : Config) (ws : List ℕ) (c : CommandCounts) (count : CommandCounts → ℕ)
-      → (count c ≡ count (counts_of (derived s) ws) → ⊥) → NoTally s ws (CountsAnswer.Counted c)
+      → (count c ≡ count (counts_of (derived s) ws) → ⊥) → NoTally s ws (Ok c)
   -- of a refused tally, whichever is not 0
   pub invented-refused : (s : Config) (ws : List ℕ) (why : Refusal) (c : CommandCounts) (count : CommandCounts → ℕ)
-      → (count c ≡ count no_counts → ⊥) → NoTally s ws (CountsAnswer.Refused why c)
+      → (count c ≡ count no_counts → ⊥) → NoTally s ws (Err (record { why = why; counts = c }))
   -- one that counts nothing, where a read pair stands
-  pub read-not-counted : (s : Config) → NoTally s (0xA0000 ∷ 0xC0000 ∷ []) (CountsAnswer.Counted no_counts)
+  pub read-not-counted : (s : Config) → NoTally s (0xA0000 ∷ 0xC0000 ∷ []) (Ok no_counts)
   -- one that lets a word with PD low open a pair: two words 0 are no refresh
-  pub low-word-opens : (s : Config) (c : CommandCounts) → c.refreshes ≡ 1 → NoTally s (0 ∷ 0 ∷ []) (CountsAnswer.Counted c)
+  pub low-word-opens : (s : Config) (c : CommandCounts) → c.refreshes ≡ 1 → NoTally s (0 ∷ 0 ∷ []) (Ok c)
 
 -- no contract lets an advance over ws answer so and leave the checker `after`: not those of `next_word` and `advance_through`, and not
 -- that of `advance`, which promises the same of its checker
-abbrev pub NoMove : Checker → List ℕ → Progress → Checker → Type 0
+abbrev pub NoMove : Checker → List ℕ → Result Progress Refusal → Checker → Type 0
 NoMove s ws p after = MovePromised s ws (record { progress = p; checker = after }) → ⊥
 
 -- wrong walks
 pub record Walks : Type 0 where
   -- one that says end while words are left: at any state
-  pub end-early : (s after : Checker) (ws : List ℕ) → s.clock < length ws → NoMove s ws Progress.End after
+  pub end-early : (s after : Checker) (ws : List ℕ) → s.clock < length ws → NoMove s ws (Ok Progress.End) after
   -- one that says anything else where none is left, and the sheet and the state are not refused
-  pub end_unsaid : (s after : Checker) (ws : List ℕ) (t : Timing) (p : Progress) → length ws ≤ s.clock → timing_of s.config ≡ value t
-      → clock_fits s.clock s.met s.stamps ≡ true → (p ≡ Progress.End → ⊥) → NoMove s ws p after
+  pub end_unsaid : (s after : Checker) (ws : List ℕ) (t : Timing) (p : Result Progress Refusal) → length ws ≤ s.clock → timing_of s.config ≡ value t
+      → clock_fits s.clock s.met s.stamps ≡ true → (p ≡ Ok Progress.End → ⊥) → NoMove s ws p after
   -- one that says that its word passed, and does not stand one on afterwards
-  pub passed-place : (s after : Checker) (ws : List ℕ) → (after.clock ≡ s.clock + 1 → ⊥) → NoMove s ws Progress.Passed after
+  pub passed-place : (s after : Checker) (ws : List ℕ) → (after.clock ≡ s.clock + 1 → ⊥) → NoMove s ws (Ok Progress.Passed) after
   -- one that says anything else, and does not stand where it was
-  pub other_place : (s after : Checker) (ws : List ℕ) (p : Progress) → (p ≡ Progress.Passed → ⊥) → (after.clock ≡ s.clock → ⊥)
+  pub other_place : (s after : Checker) (ws : List ℕ) (p : Result Progress Refusal) → (p ≡ Ok Progress.Passed → ⊥) → (after.clock ≡ s.clock → ⊥)
       → NoMove s ws p after
 
 -- no two arguments have one value
@@ -197,17 +200,19 @@ Injective {A} f = (x y : A) → f x ≡ f y → x ≡ y
 -- two answers that are the same there are the same.
 pub record Answers : Type 0 where
   pub refusal : Injective refusal_number
+  -- `word_breach`, which `judge` and the steps go by
+  pub breach : Injective breach_number
   -- `Config::timing`, `read_pair`, `write_pair`
-  pub timing : Injective timingOutcome
-  pub read : Injective readOutcome
-  pub write : Injective writeOutcome
+  pub timing : Injective (outcome_of {A = Timing})
+  pub read : Injective (outcome_of {A = Decoded})
+  pub write : Injective (outcome_of {A = Pair})
   -- `check`, `check_bytes`; with the state, `Checker::step`
   pub verdict : Injective verdict_outcome
   pub step : Injective stepped
   -- `check_within`
-  pub within : Injective findingOutcome
+  pub within : Injective finding_outcome
   -- `trace_duration`
-  pub duration : Injective durationOutcome
+  pub duration : Injective (outcome_of {A = Duration})
   -- `count_commands`, and `turn`, by which it goes
   pub counting : Injective counting_outcome
   pub turn : (at : ℕ) → Injective (turn_outcome at)
