@@ -16,7 +16,7 @@ use early::{Rule, deadline, early_breach};
 pub use power_down::must_stay_high;
 use power_down::{selected_at_exit, wrongly_low};
 use reading::{lane_reserved, mode_wrong};
-use stamps::Past;
+use stamps::Kept;
 
 // An event at this timestamp, if there was one, is less than so many clocks, and so many more, before the clock.
 pub(crate) fn near(clock: u64, stamp: u32, limit: u32, more: u32) -> bool
@@ -26,62 +26,62 @@ pub(crate) fn near(clock: u64, stamp: u32, limit: u32, more: u32) -> bool
 }
 
 // Rule 6, for a read or write.
-fn unready(past: Past) -> bool
-    ensures { result ≡ not_ready past.stamps.extended past.stamps.regular (get_or past.stamps.refs 1 0) past.clock }
+fn unready(kept: Kept) -> bool
+    ensures { result ≡ not_ready kept.stamps.extended kept.stamps.regular (get_or kept.stamps.refs 1 0) kept.clock }
 {
-    (past.stamps.extended == 0)
-        | (past.stamps.regular == 0)
-        | (past.stamps.refs[1] == 0)
-        | (u64::from(past.clock) < u64::from(past.stamps.extended) + 201)
+    (kept.stamps.extended == 0)
+        | (kept.stamps.regular == 0)
+        | (kept.stamps.refs[1] == 0)
+        | (u64::from(kept.clock) < u64::from(kept.stamps.extended) + 201)
 }
 
 // Rule 8, for a read or write.
-fn too_close(timing: Timing, past: Past) -> bool
-    ensures { result ≡ too_close (rda past.met) true timing past.stamps.read past.stamps.write past.clock }
+fn too_close(timing: Timing, kept: Kept) -> bool
+    ensures { result ≡ too_close (rda kept.met) true timing kept.stamps.read kept.stamps.write kept.clock }
 {
     let figures = timing.figures();
-    let clock = u64::from(past.clock);
-    let rda = high(past.met, FN);
-    let after_read = near(clock, past.stamps.read, figures.rbd, 0);
-    let after_write = near(clock, past.stamps.write, figures.rbd, 0);
-    let read_to_write = near(clock, past.stamps.read, figures.rwd, 1);
-    let write_to_read = near(clock, past.stamps.write, figures.wrd, 1);
+    let clock = u64::from(kept.clock);
+    let rda = high(kept.met, FN);
+    let after_read = near(clock, kept.stamps.read, figures.rbd, 0);
+    let after_write = near(clock, kept.stamps.write, figures.rbd, 0);
+    let read_to_write = near(clock, kept.stamps.read, figures.rwd, 1);
+    let write_to_read = near(clock, kept.stamps.write, figures.wrd, 1);
     (after_read | after_write) | !rda & read_to_write | rda & write_to_read
 }
 
 // Rule 11, for an MRS or REF.
-fn busy(timing: Timing, past: Past) -> bool
-    ensures { result ≡ busy (rda past.met) false timing past.stamps.read past.stamps.write past.clock }
+fn busy(timing: Timing, kept: Kept) -> bool
+    ensures { result ≡ busy (rda kept.met) false timing kept.stamps.read kept.stamps.write kept.clock }
 {
     let figures = timing.figures();
-    let clock = u64::from(past.clock);
+    let clock = u64::from(kept.clock);
     let half = figures.bl / 2;
-    let rda = high(past.met, FN);
-    let after_read = near(clock, past.stamps.read, figures.rc, 0);
-    let after_write = near(clock, past.stamps.write, figures.rc, 0);
-    let read_data = near(clock, past.stamps.read, figures.cl, half + 1);
-    let write_data = near(clock, past.stamps.write, figures.wl, half + 1);
+    let rda = high(kept.met, FN);
+    let after_read = near(clock, kept.stamps.read, figures.rc, 0);
+    let after_write = near(clock, kept.stamps.write, figures.rc, 0);
+    let read_data = near(clock, kept.stamps.read, figures.cl, half + 1);
+    let write_data = near(clock, kept.stamps.write, figures.wl, half + 1);
     (after_read | after_write) | rda & read_data | rda & write_data
 }
 
 // Rules 4 to 12 at the LAL word of a read or write.
-fn access_breach(timing: Timing, past: Past, word: u32) -> Option<Rule>
+fn access_breach(timing: Timing, kept: Kept, word: u32) -> Option<Rule>
     requires { lal word ≡ true }
-    ensures { breach_number result ≡ closing_breach timing past.stamps past.clock past.met word }
+    ensures { breach_number result ≡ closing_breach timing kept.stamps kept.clock kept.met word }
 {
     let figures = timing.figures();
-    let clock = u64::from(past.clock);
+    let clock = u64::from(kept.clock);
     let pair = Pair {
-        first: past.met,
+        first: kept.met,
         second: word,
     };
-    let bank = bank(figures.four, past.met) as usize;
+    let bank = bank(figures.four, kept.met) as usize;
     let reserved = lane_reserved(timing, pair);
-    let unready = unready(past);
-    let same_bank = near(clock, past.stamps.banks[bank], figures.rc, 0);
-    let too_close = too_close(timing, past);
-    let after_mode = near(clock, past.stamps.mode, figures.rsc, 0);
-    let after_refresh = near(clock, past.stamps.refs[0], figures.refc, 0);
+    let unready = unready(kept);
+    let same_bank = near(clock, kept.stamps.banks[bank], figures.rc, 0);
+    let too_close = too_close(timing, kept);
+    let after_mode = near(clock, kept.stamps.mode, figures.rsc, 0);
+    let after_refresh = near(clock, kept.stamps.refs[0], figures.refc, 0);
     reserved
         .then_some(Rule::ReservedLane)
         .or(unready.then_some(Rule::NotReady))
@@ -92,22 +92,22 @@ fn access_breach(timing: Timing, past: Past, word: u32) -> Option<Rule>
 }
 
 // Rules 4 to 12 at an MRS or REF word.
-fn mode_or_refresh_breach(timing: Timing, past: Past, word: u32) -> Option<Rule>
+fn mode_or_refresh_breach(timing: Timing, kept: Kept, word: u32) -> Option<Rule>
     requires { lal word ≡ false }
-    ensures { breach_number result ≡ closing_breach timing past.stamps past.clock past.met word }
+    ensures { breach_number result ≡ closing_breach timing kept.stamps kept.clock kept.met word }
 {
     let figures = timing.figures();
-    let clock = u64::from(past.clock);
+    let clock = u64::from(kept.clock);
     let pair = Pair {
-        first: past.met,
+        first: kept.met,
         second: word,
     };
-    let rda = high(past.met, FN);
+    let rda = high(kept.met, FN);
     let wrong = mode_wrong(timing, pair);
-    let after_mode = near(clock, past.stamps.mode, figures.rsc, 0);
-    let after_refresh = near(clock, past.stamps.refs[0], figures.refc, 0);
-    let busy = busy(timing, past);
-    let in_window = near(clock, past.stamps.refs[7], figures.window, 0);
+    let after_mode = near(clock, kept.stamps.mode, figures.rsc, 0);
+    let after_refresh = near(clock, kept.stamps.refs[0], figures.refc, 0);
+    let busy = busy(timing, kept);
+    let in_window = near(clock, kept.stamps.refs[7], figures.window, 0);
     wrong
         .then_some(Rule::WrongMode)
         .or(after_mode.then_some(Rule::AfterMode))
@@ -117,29 +117,29 @@ fn mode_or_refresh_breach(timing: Timing, past: Past, word: u32) -> Option<Rule>
 }
 
 // Rules 4 to 12 at the closing word of a pair.
-fn closing_breach(timing: Timing, past: Past, word: u32) -> Option<Rule>
-    ensures { breach_number result ≡ closing_breach timing past.stamps past.clock past.met word }
+fn closing_breach(timing: Timing, kept: Kept, word: u32) -> Option<Rule>
+    ensures { breach_number result ≡ closing_breach timing kept.stamps kept.clock kept.met word }
 {
     if high(word, CS) {
-        access_breach(timing, past, word)
+        access_breach(timing, kept, word)
     } else {
-        mode_or_refresh_breach(timing, past, word)
+        mode_or_refresh_breach(timing, kept, word)
     }
 }
 
-// The lowest rule that a word breaches, by any past.
-pub fn word_breach(timing: Timing, past: Past, word: u32) -> Option<Rule>
-    ensures { breach_number result ≡ word_breach timing past.stamps past.clock past.met word }
+// The lowest rule that a word breaches, by anything that is kept.
+pub fn word_breach(timing: Timing, kept: Kept, word: u32) -> Option<Rule>
+    ensures { breach_number result ≡ word_breach timing kept.stamps kept.clock kept.met word }
 {
     let figures = timing.figures();
-    let last = deadline(figures.refi, past.stamps.refs);
-    let low = wrongly_low(timing, past, word);
-    let early = early_breach(low, last, past.clock, word);
+    let last = deadline(figures.refi, kept.stamps.refs);
+    let low = wrongly_low(timing, kept, word);
+    let early = early_breach(low, last, kept.clock, word);
     if early.is_some() {
         early
-    } else if high(past.met, CS) {
-        selected_at_exit(past.met, word).then_some(Rule::SelectedAtExit)
+    } else if high(kept.met, CS) {
+        selected_at_exit(kept.met, word).then_some(Rule::SelectedAtExit)
     } else {
-        closing_breach(timing, past, word)
+        closing_breach(timing, kept, word)
     }
 }

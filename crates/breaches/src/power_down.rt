@@ -5,7 +5,7 @@ ghost use Rattle.rules.specs.Breaches.{must_stay_high, wrongly_low, selected_at_
 use crate::near;
 use command::pins::{CS, PD, high};
 use config::Timing;
-use stamps::{Past, Timestamps, is_exiting, is_powered_down};
+use stamps::{Kept, Timestamps, is_exiting, is_powered_down};
 
 // PD may not go low yet, by any timestamps: it is too soon after an earlier pair.
 pub fn must_stay_high(timing: Timing, stamps: Timestamps, clock: u32) -> bool
@@ -26,17 +26,17 @@ pub fn must_stay_high(timing: Timing, stamps: Timestamps, clock: u32) -> bool
 }
 
 // Rule 2: the word goes low and may not.
-pub(crate) fn wrongly_low(timing: Timing, past: Past, word: u32) -> bool
-    ensures { result ≡ wrongly_low timing past.stamps past.clock past.met word }
+pub(crate) fn wrongly_low(timing: Timing, kept: Kept, word: u32) -> bool
+    ensures { result ≡ wrongly_low timing kept.stamps kept.clock kept.met word }
 {
     if high(word, PD) {
         return false;
     }
-    let powered_down = is_powered_down(past.met);
-    let exiting = is_exiting(past.met);
-    let opened = !high(past.met, CS);
+    let powered_down = is_powered_down(kept.met);
+    let exiting = is_exiting(kept.met);
+    let opened = !high(kept.met, CS);
     let selected = !high(word, CS);
-    let too_soon = must_stay_high(timing, past.stamps, past.clock);
+    let too_soon = must_stay_high(timing, kept.stamps, kept.clock);
     !powered_down & (opened | exiting | selected | too_soon)
 }
 

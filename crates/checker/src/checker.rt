@@ -6,7 +6,7 @@ use basics::{LIMIT, Refusal};
 use breaches::word_breach;
 use config::{Config, Timing};
 use consistency::past_fits;
-use stamps::{Past, Timestamps, next_met};
+use stamps::{Kept, Timestamps, next_met};
 
 // The clock and the number of a breach; number 0 where there is none.
 #[derive(Clone, Copy, Debug, PartialEq, Eq)]
@@ -39,7 +39,7 @@ impl Checker {
     pub fn fresh(config: Config) -> Checker
         ensures { result ≡ fresh config }
     {
-        let Past { clock, met, stamps } = Past::start();
+        let Kept { clock, met, stamps } = Kept::start();
         Checker {
             config,
             clock,
@@ -53,10 +53,10 @@ impl Checker {
     }
 
     // What it keeps of the words before.
-    pub fn past(self) -> Past
+    pub fn kept(self) -> Kept
         ensures { result ≡ record { clock = self.clock; met = self.met; stamps = self.stamps } }
     {
-        Past {
+        Kept {
             clock: self.clock,
             met: self.met,
             stamps: self.stamps,
@@ -68,7 +68,7 @@ impl Checker {
         ensures { stepped result ≡ judged timing self word }
     {
         let figures = timing.figures();
-        match word_breach(timing, self.past(), word) {
+        match word_breach(timing, self.kept(), word) {
             None => Stepped {
                 verdict: Ok(None),
                 checker: Checker {
@@ -96,7 +96,7 @@ impl Checker {
         ensures { tried self result ≡ step_of self word }
     {
         let timing = self.config.timing()?;
-        if !past_fits(self.past()) {
+        if !past_fits(self.kept()) {
             return Err(Refusal::State);
         }
         if self.breach.number != 0 {

@@ -6,7 +6,7 @@ ghost use Rattle.consistency.specs.Consistency.{before, eight_before, stamps_bef
 
 use basics::{LIMIT, choose};
 use command::pins::{CS, high};
-use stamps::{Past, is_exiting, is_powered_down};
+use stamps::{Kept, is_exiting, is_powered_down};
 
 // An event, if it is remembered, is before the clock.
 fn before(clock: u32, event: u32) -> bool
@@ -22,10 +22,10 @@ fn eight_before(clock: u32, events: [u32; 8]) -> bool
 }
 
 // Every event that is remembered is before the clock.
-fn stamps_before(past: Past) -> bool
-    ensures { result ≡ stamps_before past.clock past.stamps }
+fn stamps_before(kept: Kept) -> bool
+    ensures { result ≡ stamps_before kept.clock kept.stamps }
 {
-    let Past { clock, stamps, .. } = past;
+    let Kept { clock, stamps, .. } = kept;
     before(clock, stamps.extended)
         && before(clock, stamps.regular)
         && before(clock, stamps.mode)
@@ -45,8 +45,8 @@ fn words_before(first: u32) -> u32
 }
 
 // The clock is within its limit, and nothing that is remembered contradicts it (otherwise 19).
-pub fn past_fits(past: Past) -> bool
-    ensures { result ≡ clock_fits past.clock past.met past.stamps }
+pub fn past_fits(kept: Kept) -> bool
+    ensures { result ≡ clock_fits kept.clock kept.met kept.stamps }
 {
-    past.clock <= LIMIT && stamps_before(past) && words_before(past.met) <= past.clock
+    kept.clock <= LIMIT && stamps_before(kept) && words_before(kept.met) <= kept.clock
 }

@@ -6,7 +6,8 @@ use mathlib.Core.List.{List, [], ◌∷◌}
 use native.Mathlib.Omega.{arith}
 use Rattle.rules.specs.History.{Past, nothing, extend, past_from}
 use Rattle.rules.specs.Breaches.{word_breach}
-use Rattle.rules.specs.Kept.{Kept, met_of, kept_from, Enough}
+use Rattle.rules.specs.Kept.{met_of, kept_from, Enough}
+use Rattle.stamps.specs.declared.Kept.{Kept}
 use Rattle.rules.proofs.Summary.{summary}
 use Rattle.rules.proofs.Words.{Regular, regular-extend, breach-is, stamps-is, met-is}
 

@@ -4,15 +4,9 @@ use Rattle.command.specs.Pairs.{desl}
 use Rattle.config.specs.declared.Timing.{Timing}
 use Rattle.rules.specs.History.{idle, powered_down, exiting, Phase, pair, between, nothing, past_from}
 use Rattle.rules.specs.Rules.{breach_at}
-use Rattle.stamps.specs.Stamps.{next_stamps, next_met, never, asleep, waking}
+use Rattle.stamps.specs.Stamps.{next_stamps, next_met, start, asleep, waking}
 use Rattle.rules.specs.Breaches.{word_breach}
-use Rattle.stamps.specs.declared.Timestamps.{Timestamps}
-
--- the clock of the next word, what it meets, as one word, and the timestamps
-pub record Kept : Type 0 where
-  pub clock : ℕ
-  pub met : ℕ
-  pub stamps : Timestamps
+use Rattle.stamps.specs.declared.Kept.{Kept}
 
 -- what the next word meets, as one word
 abbrev pub met_of : Phase → ℕ
@@ -30,7 +24,7 @@ kept_from four k (w ∷ ws) =
 
 -- from power-up on
 abbrev pub kept : Bool → List ℕ → Kept
-kept four ws = kept_from four (record { clock = 0; met = desl; stamps = never }) ws
+kept four ws = kept_from four start ws
 
 -- the theorem that joins the tests to the published rules
 pub record Enough : Type 0 where

@@ -5,7 +5,7 @@ use Rattle.command.specs.Pins.{high}
 use Rattle.command.specs.Pairs.{selected, rda, lal, desl}
 use Rattle.command.specs.Address.{bank_of}
 use Rattle.stamps.specs.declared.Timestamps.{Timestamps}
-use Rattle.stamps.specs.declared.Past.{Past}
+use Rattle.stamps.specs.declared.Kept.{Kept}
 
 -- what is kept once a read or write has closed at k
 abbrev pub with_access : Timestamps → ℕ → Bool → ℕ → Timestamps
@@ -99,5 +99,5 @@ never =
     record { extended = 0; regular = 0; mode = 0; read = 0; write = 0; banks = none; refs = none }
 
 -- before the first word: clock 0, which meets nothing, and nothing is remembered
-abbrev pub start : Past
+abbrev pub start : Kept
 start = record { clock = 0; met = desl; stamps = never }

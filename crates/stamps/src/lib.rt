@@ -121,7 +121,7 @@ impl Timestamps {
 
 // What is kept of the words before: the clock of the next one, what that one meets, and the events.
 #[derive(Clone, Copy)]
-pub struct Past {
+pub struct Kept {
     pub clock: u32,
     // The first word of the open pair, which has CS low; or, with CS high, DESL for nothing, asleep if PD is low, the second wake-up word
     // due if PD and FN are high.
@@ -129,12 +129,12 @@ pub struct Past {
     pub stamps: Timestamps,
 }
 
-impl Past {
+impl Kept {
     // Before the first word.
-    pub fn start() -> Past
+    pub fn start() -> Kept
         ensures { result ≡ start }
     {
-        Past {
+        Kept {
             clock: 0,
             met: DESL,
             stamps: Timestamps::never(),

@@ -9,25 +9,25 @@ use basics::{LIMIT, Refusal};
 use breaches::word_breach;
 use checker::Breach;
 use config::{Config, Timing};
-use stamps::{Past, next_met};
+use stamps::{Kept, next_met};
 
 fn judged(timing: Timing, words: &[u32]) -> Option<Breach>
     requires { length words.now ≤ 16777216 }
     ensures { judgement_of result ≡ judge timing words.now }
 {
     let figures = timing.figures();
-    let mut past = Past::start();
+    let mut kept = Kept::start();
     for &word in words {
-        if let Some(rule) = word_breach(timing, past, word) {
+        if let Some(rule) = word_breach(timing, kept, word) {
             return Some(Breach {
-                clock: past.clock,
+                clock: kept.clock,
                 number: rule.number(),
             });
         }
-        past = Past {
-            clock: past.clock + 1,
-            met: next_met(past.met, word),
-            stamps: past.stamps.after(figures.four, past.clock, past.met, word),
+        kept = Kept {
+            clock: kept.clock + 1,
+            met: next_met(kept.met, word),
+            stamps: kept.stamps.after(figures.four, kept.clock, kept.met, word),
         };
     }
     None

@@ -6,7 +6,7 @@ use Rattle.breaches.proofs.access_breach.Goals as goal
 
 pub returns : goal.returns
 returns c =
-    let past = c.args.past in
+    let kept = c.args.kept in
     let figures = c.figures-figures.ensures in
     let clock = c.from-clock.ensures in
     rw (
@@ -23,7 +23,7 @@ returns c =
       c.then_some-6.ensures,
     )
     (of_access _ _ _ _ _ _
-    ∙ at-lal c.args.timing past.stamps past.clock past.met c.args.word c.requires
+    ∙ at-lal c.args.timing kept.stamps kept.clock kept.met c.args.word c.requires
     c.lane_reserved-reserved.ensures
     c.unready-unready.ensures
     (rw (clock, c.bank-bank.ensures.0, figures) at c.near-same_bank.ensures)

@@ -6,7 +6,7 @@ use Rattle.breaches.proofs.mode_or_refresh_breach.Goals as goal
 
 pub returns : goal.returns
 returns c =
-    let past = c.args.past in
+    let kept = c.args.kept in
     let figures = c.figures-figures.ensures in
     let clock = c.from-clock.ensures in
     rw (
@@ -22,7 +22,7 @@ returns c =
       c.high-rda.ensures,
     )
     (of_other _ _ _ _ _
-    ∙ at_other c.args.timing past.stamps past.clock past.met c.args.word c.requires
+    ∙ at_other c.args.timing kept.stamps kept.clock kept.met c.args.word c.requires
     c.mode_wrong-wrong.ensures
     (rw (clock, figures) at c.near-after_mode.ensures)
     (rw (clock, figures) at c.near-after_refresh.ensures)

@@ -11,12 +11,12 @@ numbered : (r : Rule) → rule_number r ≡ 0 → ⊥
 numbered r e = grind (arith, common_steps)
 
 pub loop-word-init : goal.loop-word-init
-loop-word-init c = rw c.start-past.ensures (refl, run_is c.args.timing c.args.words.now)
+loop-word-init c = rw c.start-kept.ensures (refl, run_is c.args.timing c.args.words.now)
 
 pub returns-in-Some : goal.returns-in-Some
 returns-in-Some c =
-    let past = c.loop-word.past in
+    let kept = c.loop-word.kept in
     let number = c.number.ensures ∙ c.in-Some.ensures in
     let word = ap (λ k. get_or c.args.words.now k 0) (sym c.loop-word.invariant.0) in
-    let breaches = run_breaches c.args.timing past.stamps past.met c.args.words.now past.clock (omega arith) word number in
+    let breaches = run_breaches c.args.timing kept.stamps kept.met c.args.words.now kept.clock (omega arith) word number in
     sym (c.loop-word.invariant.1 ∙ breaches (rw c.number.ensures (numbered c.in-Some.rule)))

@@ -6,5 +6,5 @@ use Rattle.wordcheck.proofs.judged.Given as goal
 
 abbrev pub invariant-loop-word : goal.invariant-loop-word
 invariant-loop-word l =
-    (l.past.clock ≡ l.word-index)
-    × (judge l.timing l.words ≡ run l.timing l.past.stamps l.past.clock l.past.met (drop l.past.clock l.words))
+    (l.kept.clock ≡ l.word-index)
+    × (judge l.timing l.words ≡ run l.timing l.kept.stamps l.kept.clock l.kept.met (drop l.kept.clock l.words))
