@@ -8,24 +8,24 @@ use command::Pair;
 use config::Timing;
 use queue::request_at;
 use scheduler::{OpenPair, chosen_at, next_pair};
-use stamps::{DESL, Past, Timestamps};
+use stamps::{DESL, Kept, Timestamps};
 
 // The two words of a pair, at this clock and the next, would breach nothing.
 fn passes(timing: Timing, stamps: Timestamps, clock: u32, pair: Pair) -> bool
     requires { clock < 16777216 }
     ensures { result ≡ passes timing stamps clock pair }
 {
-    let past = Past {
+    let kept = Kept {
         clock,
         met: DESL,
         stamps,
     };
-    let between = Past {
+    let between = Kept {
         clock: clock + 1,
         met: pair.first,
         stamps,
     };
-    let first = word_breach(timing, past, pair.first);
+    let first = word_breach(timing, kept, pair.first);
     let second = word_breach(timing, between, pair.second);
     first.is_none() & second.is_none()
 }

@@ -6,7 +6,7 @@ ghost use Rattle.controller.specs.Steps.{held, state_fits};
 use crate::Controller;
 use config::Timing;
 use queue::waiting_fit;
-use stamps::{DESL, Past};
+use stamps::{DESL, Kept};
 
 impl Controller {
     // Every field of the waiting requests is in its range. Where none waits, the queue is not looked at.
@@ -21,12 +21,12 @@ impl Controller {
     pub(crate) fn fits(&self, timing: Timing) -> bool
         ensures { result ≡ state_fits timing self.now }
     {
-        let past = Past {
+        let kept = Kept {
             clock: self.clock,
             met: DESL,
             stamps: self.stamps,
         };
-        consistency::past_fits(past)
+        consistency::past_fits(kept)
             & !((self.clock == 0) & self.opened.is_open())
             & (self.count <= Controller::CAPACITY)
             & self.requests_fit(timing)
