@@ -36,7 +36,7 @@ fn past_power_down(timing: Timing, bytes: &[u8], stamps: Timestamps, clock: u32,
         return clock;
     }
     let at = past_run(bytes, clock + 1, end, BELOW_PD, 0);
-    if end < at as u64 + 2 {
+    if end < u64::from(at) + 2 {
         return clock;
     }
     let first_exit = words::word_at(bytes, at as usize);
@@ -59,7 +59,7 @@ pub(crate) fn past_idle(
     requires { (length bytes.now / 4 ≤ 16777216) × (end ≤ length bytes.now / 4) }
     ensures { (clock ≤ result) × IdlePassed timing stamps end (words_of bytes.now) clock result }
 {
-    if end <= clock as u64 {
+    if end <= u64::from(clock) {
         return clock;
     }
     let word = words::word_at(bytes, clock as usize);

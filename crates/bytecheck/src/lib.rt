@@ -3,62 +3,69 @@
 
 mod idle;
 mod pairs;
-mod place;
 mod quick;
 mod skim;
 
-ghost use Rattle.std.specs.Prelude.{◌≡◌, ◌≤◌, ◌/◌, length};
-ghost use Rattle.basics.specs.Outcome.{value};
+ghost use Rattle.std.specs.Prelude.{◌≡◌, ◌≤◌, ◌<◌, ◌/◌, length};
 ghost use Rattle.words.specs.Words.{words_of};
 ghost use Rattle.rules.specs.Verdict.{judge, check_bytes_of};
-ghost use Rattle.checker.specs.Steps.{verdict_outcome};
+ghost use Rattle.checker.specs.Steps.{judgement_of, verdict_outcome};
+ghost use Rattle.bytecheck.specs.Passed.{next};
 
 use basics::{LIMIT, Refusal};
 use breaches::word_breach;
-use checker::{Breach, Verdict};
-use config::{Config, Timing, TimingAnswer};
-use place::Place;
+use checker::Breach;
+use config::{Config, Timing};
 use skim::skimmed;
+use stamps::{Past, next_met};
 
-// Words that surely breach nothing are skimmed; the others are tested by every rule.
-fn judged_bytes(timing: Timing, bytes: &[u8]) -> Verdict
+// Behind a word that breaches nothing, with four banks or eight.
+fn behind(past: Past, four: bool, word: u32) -> Past
+    requires { past.clock < 16777216 }
+    ensures { result ≡ next four past word }
+{
+    Past {
+        clock: past.clock + 1,
+        met: next_met(past.met, word),
+        stamps: past.stamps.after(four, past.clock, past.met, word),
+    }
+}
+
+// The breach of a trace, if it has one. Words that surely breach nothing are skimmed; the others are tested by every rule.
+fn judged_bytes(timing: Timing, bytes: &[u8]) -> Option<Breach>
     requires { length bytes.now / 4 ≤ 16777216 }
-    ensures { verdict_outcome result ≡ value (judge timing (words_of bytes.now)) }
+    ensures { judgement_of result ≡ judge timing (words_of bytes.now) }
 {
     let figures = timing.figures();
-    let four = figures.four;
-    let mut place = Place::start();
-    while (place.clock as usize) < bytes.len() / 4 {
-        place = skimmed(timing, bytes, place);
-        let clock = place.clock;
+    let mut past = Past::start();
+    while (past.clock as usize) < bytes.len() / 4 {
+        past = skimmed(timing, bytes, past);
+        let clock = past.clock;
         if bytes.len() / 4 <= clock as usize {
             break;
         }
         let word = words::word_at(bytes, clock as usize);
-        let number = word_breach(timing, place.stamps, clock, place.met, word);
-        if number != 0 {
-            return Verdict::InBreach(Breach { clock, number });
+        if let Some(rule) = word_breach(timing, past, word) {
+            return Some(Breach {
+                clock,
+                number: rule.number(),
+            });
         }
-        place = place.after(four, word);
+        past = behind(past, figures.four, word);
     }
-    Verdict::Accepted
+    None
 }
 
 // The verdict on a trace of little-endian bytes: the configuration's refusals, then 29 for bytes that are no whole words, then 24.
-pub fn check_bytes(config: Config, bytes: &[u8]) -> Verdict
+pub fn check_bytes(config: Config, bytes: &[u8]) -> Result<Option<Breach>, Refusal>
     ensures { verdict_outcome result ≡ check_bytes_of config bytes.now }
 {
-    match config.timing() {
-        TimingAnswer::Refused(why) => Verdict::Refused(why),
-        TimingAnswer::Accepted(timing) => {
-            if bytes.len() % 4 != 0 {
-                return Verdict::Refused(Refusal::PartialWord);
-            }
-            if bytes.len() / 4 <= LIMIT as usize {
-                judged_bytes(timing, bytes)
-            } else {
-                Verdict::Refused(Refusal::ClockLimit)
-            }
-        }
+    let timing = config.timing()?;
+    if bytes.len() % 4 != 0 {
+        return Err(Refusal::PartialWord);
     }
+    if bytes.len() / 4 > LIMIT as usize {
+        return Err(Refusal::ClockLimit);
+    }
+    Ok(judged_bytes(timing, bytes))
 }

@@ -1,9 +1,11 @@
 // A quick look: what is true only of words that breach nothing, by a few comparisons. It is there for speed.
-ghost use Rattle.std.specs.Prelude.{◌≡◌, true, false, cond, ℕ, ◌+◌, ◌≤◌, ◌<◌, max};
+ghost use Rattle.std.specs.Prelude.{◌≡◌, true, false, ℕ, ◌+◌, ◌≤◌, ◌<◌};
+ghost use Rattle.early.specs.Answers.{deadline_number};
 ghost use Rattle.rules.specs.Breaches.{overdue};
 ghost use Rattle.bytecheck.specs.Quick.{SettledFrom, InTime};
 ghost use Rattle.bytecheck.specs.Pairs.{limits_of, Small, Clear, FreeFrom};
 
+use basics::choose;
 use config::Timing;
 use early::deadline;
 use stamps::Timestamps;
@@ -20,45 +22,21 @@ const UPPER: u64 = 0x180000020000;
 // Bits of which one is set in any read or write.
 const ANY: u64 = 0xFFFFFFFFFFFFFFFF;
 
-fn wide(n: u32) -> u64
-    ensures { (result ≡ n) × (result < 4294967296) }
-{
-    n as u64
-}
-
 // A timestamp and a number of clocks after it.
 fn plus(stamp: u32, clocks: u32) -> u64
     ensures { (result ≡ stamp + clocks) × (result < 8589934592) }
 {
-    wide(stamp) + wide(clocks)
+    u64::from(stamp) + u64::from(clocks)
 }
 
-fn lesser(a: u64, b: u64) -> u64
-    ensures { (result ≤ a) × (result ≤ b) }
+// The clock behind the last one that rule 3 allows. Past every clock of a trace where there is none, or where it lies as far.
+fn late_from(last: Option<u64>) -> u64
+    ensures { (k : ℕ) → k < result → overdue (deadline_number last) k ≡ false }
 {
-    if a < b { a } else { b }
-}
-
-pub(crate) fn greater(a: u64, b: u64) -> u64
-    ensures { result ≡ max a b }
-{
-    if a < b { b } else { a }
-}
-
-fn either(test: bool, a: u64, b: u64) -> u64
-    ensures { result ≡ cond test a b }
-{
-    if test { a } else { b }
-}
-
-// The clock behind the last one that rule 3 allows. Past every clock of a trace where that is 0, for never, or lies as far.
-fn late_from(last: u64) -> u64
-    ensures { (k : ℕ) → k < result → overdue last k ≡ false }
-{
-    if last == 0 {
-        return NEVER;
+    match last {
+        Some(last) => if last < NEVER { last + 1 } else { NEVER },
+        None => NEVER,
     }
-    if last < NEVER { last + 1 } else { NEVER }
 }
 
 // How many of so many words keep rule 3. This is the lower of `count` and a number that has nothing to do with it, so the compiler sees
@@ -67,8 +45,7 @@ pub(crate) fn in_time(timing: Timing, stamps: Timestamps, count: u64) -> u64
     ensures { (result ≤ count) × InTime timing stamps result }
 {
     let figures = timing.figures();
-    let refs = stamps.refs;
-    lesser(late_from(deadline(figures.refi, refs)), count)
+    late_from(deadline(figures.refi, stamps.refs)).min(count)
 }
 
 // A clock from which on no read or write breaches rule 6, 9 or 10.
@@ -76,12 +53,12 @@ fn settled_from(timing: Timing, stamps: Timestamps) -> u64
     ensures { SettledFrom timing stamps result × (result ≤ 8589934592) }
 {
     let figures = timing.figures();
-    let refs = stamps.refs;
-    if (stamps.extended == 0) | (stamps.regular == 0) | (refs[1] == 0) {
+    if (stamps.extended == 0) | (stamps.regular == 0) | (stamps.refs[1] == 0) {
         return NEVER;
     }
-    let calm = greater(plus(stamps.mode, figures.rsc), plus(refs[0], figures.refc));
-    greater(plus(stamps.extended, 201), calm)
+    plus(stamps.extended, 201)
+        .max(plus(stamps.mode, figures.rsc))
+        .max(plus(stamps.refs[0], figures.refc))
 }
 
 // What reads and writes are tested by, the same for all of a trace.
@@ -102,14 +79,14 @@ impl Limits {
     {
         let figures = timing.figures();
         let reserved = figures.bl == 4;
-        let lower = either(reserved, LOWER, ANY);
-        let same = wide(figures.rbd);
-        let to_read = greater(same, wide(figures.wrd) + 1);
-        let to_write = greater(same, wide(figures.rwd) + 1);
+        let lower = choose(reserved, LOWER, ANY);
+        let same = u64::from(figures.rbd);
+        let to_read = same.max(u64::from(figures.wrd) + 1);
+        let to_write = same.max(u64::from(figures.rwd) + 1);
         Limits {
             lower,
-            upper: either(reserved & (figures.organisation == 16), UPPER, lower),
-            rc: wide(figures.rc),
+            upper: choose(reserved & (figures.organisation == 16), UPPER, lower),
+            rc: u64::from(figures.rc),
             spacings: [same, to_read, to_write, same, 0, 0],
         }
     }
@@ -120,18 +97,11 @@ pub(crate) fn free_from(timing: Timing, stamps: Timestamps) -> u64
     ensures { FreeFrom timing stamps result 4 × (result ≤ 8589934592) }
 {
     let figures = timing.figures();
-    let after_read = greater(
-        plus(stamps.read, figures.rbd),
-        plus(stamps.read, figures.rwd) + 1,
-    );
-    let after_write = greater(
-        plus(stamps.write, figures.rbd),
-        plus(stamps.write, figures.wrd) + 1,
-    );
-    greater(
-        settled_from(timing, stamps),
-        greater(after_read, after_write),
-    )
+    settled_from(timing, stamps)
+        .max(plus(stamps.read, figures.rbd))
+        .max(plus(stamps.read, figures.rwd) + 1)
+        .max(plus(stamps.write, figures.rbd))
+        .max(plus(stamps.write, figures.wrd) + 1)
 }
 
 // True only of the two words of a read or write that keep rules 1, 2, 5 and 7, and not before the clock `allowed`.

@@ -7,34 +7,25 @@ ghost use Rattle.bytecheck.specs.Pairs.{stamps_of};
 
 use crate::idle::{past_idle, past_low};
 use crate::pairs::{Track, past_gaps, past_pairs};
-use crate::place::Place;
 use crate::quick::{free_from, in_time};
 use config::Timing;
-use stamps::{DESL, POWERED_DOWN, Timestamps};
+use stamps::{DESL, POWERED_DOWN, Past, Timestamps};
 
 // The timestamps of a track, with the last read and write.
 fn current(track: Track) -> Timestamps
     ensures { result ≡ stamps_of track }
 {
-    let stamps = track.stamps;
-    let accesses = track.accesses;
-    let banks = stamps.banks;
-    let refs = stamps.refs;
     Timestamps {
-        extended: stamps.extended,
-        regular: stamps.regular,
-        mode: stamps.mode,
-        read: accesses[1],
-        write: accesses[0],
-        banks,
-        refs,
+        read: track.accesses[1],
+        write: track.accesses[0],
+        ..track.stamps
     }
 }
 
 // From a clock on where nothing is met: DESL, sleeps, reads and writes. Neither the end nor the clock from which on reads and writes are
 // allowed changes by these. DESL comes first, since a long run of it often stands behind a refresh; where it ends pairs are tried, and
 // where they were tried before and nothing is passed since, the skim ends.
-fn skim(timing: Timing, bytes: &[u8], from: Timestamps, start: u32) -> Place
+fn skim(timing: Timing, bytes: &[u8], from: Timestamps, start: u32) -> Past
     requires { length bytes.now / 4 ≤ 16777216 }
     ensures { Passed timing (words_of bytes.now) (idle_at start from) result }
 {
@@ -51,7 +42,11 @@ fn skim(timing: Timing, bytes: &[u8], from: Timestamps, start: u32) -> Place
         let stamps = current(track);
         let after = past_idle(timing, bytes, stamps, track.clock as u32, end);
         if tried & (after as u64 == track.clock) {
-            return Place::at(after, DESL, stamps);
+            return Past {
+                clock: after,
+                met: DESL,
+                stamps,
+            };
         }
         track.clock = after as u64;
         track = past_gaps(timing, bytes, track, end);
@@ -60,19 +55,17 @@ fn skim(timing: Timing, bytes: &[u8], from: Timestamps, start: u32) -> Place
     }
 }
 
-// Goes on from a place as long as words surely breach nothing.
-pub(crate) fn skimmed(timing: Timing, bytes: &[u8], from: Place) -> Place
+// Goes on as long as words surely breach nothing.
+pub(crate) fn skimmed(timing: Timing, bytes: &[u8], from: Past) -> Past
     requires { length bytes.now / 4 ≤ 16777216 }
     ensures { Passed timing (words_of bytes.now) from result }
 {
-    let stamps = from.stamps;
-    let first = from.met;
-    if first == DESL {
-        return skim(timing, bytes, stamps, from.clock);
+    if from.met == DESL {
+        return skim(timing, bytes, from.stamps, from.clock);
     }
-    if first == POWERED_DOWN {
-        let clock = past_low(timing, bytes, stamps, from.clock);
-        return Place::at(clock, first, stamps);
+    if from.met == POWERED_DOWN {
+        let clock = past_low(timing, bytes, from.stamps, from.clock);
+        return Past { clock, ..from };
     }
     from
 }

@@ -13,8 +13,8 @@ use Rattle.bytecheck.proofs.Access.{Going, goes_on, goes_over, shifted}
 use Rattle.bytecheck.proofs.Turns.{Marking, lowest, after-of}
 use Rattle.bytecheck.proofs.pairs.past_gaps.Goals as goal
 
-pub loop-clock-init : goal.loop-clock-init
-loop-clock-init c = record { tracked = c.requires.2; passed = none }
+pub loop-track-init : goal.loop-track-init
+loop-track-init c = record { tracked = c.requires.2; passed = none }
 
 -- past the DESL words before the next pair
 over : {t : Timing} (bytes : List ℕ) {end : ℕ} {from k : Track} → Going t (words_of bytes) end from k → {stop m : ℕ}
@@ -29,44 +29,44 @@ returns-then-not-clear c =
     let l = c.loop-marks in
     let bytes = c.args.bytes.now in
     let lead = count_trailing_zeros 64 l.marks in
-    let at : l.clock + lead + 1 - 1 ≡ l.clock + lead = omega arith in
-    let passed = over bytes l.invariant.1 l.invariant.0 c.loop-marks-test.true c.loop-clock-test.true c.requires.1 c.requires.0 in
-    rw (c.at.ensures, at) (passed.tracked, passed.passed)
+    let at : l.track.clock + lead + 1 - 1 ≡ l.track.clock + lead = omega arith in
+    let passed = over bytes l.invariant.1 l.invariant.0 c.loop-marks-test.true c.loop-track-test.true c.requires.1 c.requires.0 in
+    rw at (passed.tracked, passed.passed)
 
 pub loop-marks-preserved : goal.loop-marks-preserved
 loop-marks-preserved c =
     let l = c.loop-marks in
     let bytes = c.args.bytes.now in
-    let stop = c.loop-clock.clock + 58 in
+    let stop = c.loop-track.track.clock + 58 in
     let lead = count_trailing_zeros 64 l.marks in
     let inside = (lowest l.invariant.0 c.loop-marks-test.true).inside in
     let short : length bytes / 4 ≤ 16777216 = c.requires.0 in
     let fits : c.args.end ≤ length bytes / 4 = c.requires.1 in
-    let early : stop < c.args.end = c.loop-clock-test.true in
-    let near : l.clock + lead + 1 ≤ stop = omega (arith, inside) in (
+    let early : stop < c.args.end = c.loop-track-test.true in
+    let near : l.track.clock + lead + 1 ≤ stop = omega (arith, inside) in (
       record {
         before = omega (arith, near);
         since = omega (arith, l.invariant.0.since);
-        marked = after-of (words_of bytes) l.clock stop lead l.marks l.invariant.0.marked;
+        marked = after-of (words_of bytes) l.track.clock stop lead l.marks l.invariant.0.marked;
       },
       goes_on (over bytes l.invariant.1 l.invariant.0 c.loop-marks-test.true early fits short) (omega (arith, near))
           (rw (words-length bytes) fits) (omega arith) c.pair_to-pair.result
-          (pair-listed bytes (l.clock + lead) c.pair_to-pair.ensures (omega (arith, near)))
+          (pair-listed bytes (l.track.clock + lead) c.pair_to-pair.ensures (omega (arith, near)))
           (c.bank-bank.ensures.0 ∙ ap (λ (f : Figures). bank_of f.four (c.pair_to-pair.result % 2 ^ 32)) c.figures.ensures)
           (rw c.of-limits.ensures.0 at c.clear.ensures c.if-not-clear.false),
     )
 
-pub loop-clock-preserved : goal.loop-clock-preserved
-loop-clock-preserved c =
+pub loop-track-preserved : goal.loop-track-preserved
+loop-track-preserved c =
     let l = c.loop-marks in
     let bytes = c.args.bytes.now in
     let ws = words_of bytes in
-    let stop = c.loop-clock.clock + 58 in
+    let stop = c.loop-track.track.clock + 58 in
     let marking = l.invariant.0 in
     let short : length bytes / 4 ≤ 16777216 = c.requires.0 in
     let fits : c.args.end ≤ length bytes / 4 = c.requires.1 in
-    let to : c.greater-clock.result ≡ l.clock + (stop - l.clock) = omega (arith, c.greater-clock.ensures) in
-    let none_left : marks 18 3 ws l.clock (stop - l.clock) ≡ 0 = sym marking.marked ∙ c.loop-marks-test.false in
+    let to : c.max.result ≡ l.track.clock + (stop - l.track.clock) = omega (arith, c.max.ensures) in
+    let none_left : marks 18 3 ws l.track.clock (stop - l.track.clock) ≡ 0 = sym marking.marked ∙ c.loop-marks-test.false in
     rw to
-    (goes_over l.invariant.1 (stop - l.clock) (omega (arith, marking.before)) (rw (words-length bytes) fits) (omega arith)
-    (marks-none 18 3 ws l.clock (stop - l.clock) none_left))
+    (goes_over l.invariant.1 (stop - l.track.clock) (omega (arith, marking.before)) (rw (words-length bytes) fits) (omega arith)
+    (marks-none 18 3 ws l.track.clock (stop - l.track.clock) none_left))

@@ -7,17 +7,17 @@ use Rattle.bytecheck.proofs.pairs.past_gaps.Given as goal
 
 abbrev pub invariant-loop-marks : goal.invariant-loop-marks
 invariant-loop-marks l =
-    Marking (words_of l.bytes) l.stop l.clock l.marks
+    Marking (words_of l.bytes) l.stop l.track.clock l.marks
     × Going l.timing (words_of l.bytes) l.end l.fn.from
-    (record { clock = l.clock; last = l.last; row = l.row; accesses = l.accesses; stamps = l.stamps })
+    l.track
 
 abbrev pub decreases-loop-marks : goal.decreases-loop-marks
-decreases-loop-marks l = l.stop + 2 - l.clock
+decreases-loop-marks l = l.stop + 2 - l.track.clock
 
-abbrev pub invariant-loop-clock : goal.invariant-loop-clock
-invariant-loop-clock l =
+abbrev pub invariant-loop-track : goal.invariant-loop-track
+invariant-loop-track l =
     Going l.timing (words_of l.bytes) l.end l.fn.from
-    (record { clock = l.clock; last = l.last; row = l.row; accesses = l.accesses; stamps = l.stamps })
+    l.track
 
-abbrev pub decreases-loop-clock : goal.decreases-loop-clock
-decreases-loop-clock l = l.end - l.clock
+abbrev pub decreases-loop-track : goal.decreases-loop-track
+decreases-loop-track l = l.end - l.track.clock

@@ -4,10 +4,10 @@ use Rattle.words.specs.Words.{words_of}
 use Rattle.bytecheck.proofs.Access.{Going}
 use Rattle.bytecheck.proofs.pairs.past_pairs.Given as goal
 
-abbrev pub invariant-loop-clock : goal.invariant-loop-clock
-invariant-loop-clock l =
+abbrev pub invariant-loop-track : goal.invariant-loop-track
+invariant-loop-track l =
     Going l.timing (words_of l.bytes) l.end l.fn.from
-    (record { clock = l.clock; last = l.last; row = l.row; accesses = l.accesses; stamps = l.stamps })
+    l.track
 
-abbrev pub decreases-loop-clock : goal.decreases-loop-clock
-decreases-loop-clock l = l.end - l.clock
+abbrev pub decreases-loop-track : goal.decreases-loop-track
+decreases-loop-track l = l.end - l.track.clock
