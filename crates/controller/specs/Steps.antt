@@ -23,8 +23,12 @@ use Rattle.controller.specs.declared.Controller.{Controller}
 use Rattle.controller.specs.declared.Offered.{Offered}
 use Rattle.controller.specs.declared.Ticked.{Ticked}
 
+-- what a call answers: that it is accepted, or why it is refused
+abbrev pub CallAnswer : Type 0
+CallAnswer = Result (Unit {0}) Refusal
+
 -- what an answer is in the paper's terms
-abbrev pub call_outcome : Result (Unit {0}) Refusal → Outcome (Unit {0})
+abbrev pub call_outcome : CallAnswer → Outcome (Unit {0})
 call_outcome answer = outcome_of answer
 
 -- an offer's answer, and the state that it leaves

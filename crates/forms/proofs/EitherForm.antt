@@ -5,11 +5,10 @@ use mathlib.Core.List.{List, [], ◌∷◌, ◌++◌, map}
 use lib.ListN.{length}
 use Rattle.command.specs.declared.operation.Request.{Request}
 use Rattle.controller.specs.States.{fresh}
-use Rattle.controller.specs.Steps.{held, call_outcome, offer_of, tick_of}
+use Rattle.controller.specs.Steps.{held, CallAnswer, call_outcome, offer_of, tick_of}
 use Rattle.model.specs.Runs.{Call, offer, tick, Accepted, Run, called, run_from, if_accepted}
 use Rattle.model.specs.Demand3.{Holds}
 use Rattle.controller.specs.declared.Controller.{Controller}
-use Rattle.controller.specs.declared.CallAnswer.{CallAnswer}
 use Rattle.model.proofs.Demand3.{demand_3}
 use Rattle.forms.specs.EitherForm.{Form, by_value, borrowed, Made, Promised, MadeFrom, collected, collect_from, EitherForm}
 

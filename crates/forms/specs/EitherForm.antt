@@ -1,16 +1,15 @@
 -- Lists of calls in which each is made by value or on a borrowed controller (RULES 8.8).
-use Rattle.std.specs.Prelude.{ℕ, ◌≡◌, List, [], ◌∷◌, ◌++◌, map, length}
+use Rattle.std.specs.Prelude.{ℕ, ◌≡◌, Ok, List, [], ◌∷◌, ◌++◌, map, length}
 use Rattle.basics.specs.Outcome.{value}
 use Rattle.config.specs.Configuration.{timing_of, institute}
 use Rattle.config.specs.declared.Config.{Config}
 use Rattle.config.specs.declared.Timing.{Timing}
 use Rattle.controller.specs.States.{fresh}
-use Rattle.controller.specs.Steps.{held, call_outcome, offered, ticked, offer_of, tick_of}
+use Rattle.controller.specs.Steps.{held, CallAnswer, call_outcome, offered, ticked, offer_of, tick_of}
 use Rattle.model.specs.Runs.{Call, offer, tick, Accepted, Run, if_accepted}
 use Rattle.model.specs.Demand3.{Holds}
 use Rattle.model.specs.Traces.{bank0_read}
 use Rattle.controller.specs.declared.Controller.{Controller}
-use Rattle.controller.specs.declared.CallAnswer.{CallAnswer}
 use Rattle.borrowed.specs.Promised.{OfferPromised, TickPromised}
 
 -- how a call is made
@@ -61,9 +60,9 @@ abbrev pub mixed : List Made
 mixed =
     let offered = (offer_of (fresh institute) bank0_read).after in
     let ticked = (tick_of offered).after in
-    record { form = borrowed; call = offer bank0_read; answer = CallAnswer.Accepted; word = 0; after = offered }
-    ∷ record { form = by_value; call = tick; answer = CallAnswer.Accepted; word = 0xA0000; after = ticked }
-    ∷ record { form = borrowed; call = tick; answer = CallAnswer.Accepted; word = 0x84000; after = (tick_of ticked).after }
+    record { form = borrowed; call = offer bank0_read; answer = Ok tt; word = 0; after = offered }
+    ∷ record { form = by_value; call = tick; answer = Ok tt; word = 0xA0000; after = ticked }
+    ∷ record { form = borrowed; call = tick; answer = Ok tt; word = 0x84000; after = (tick_of ticked).after }
     ∷ []
 
 -- the theorem: demand 3 holds of such lists too
