@@ -16,9 +16,9 @@ use Rattle.stamps.specs.declared.Timestamps.{Timestamps}
 use Rattle.bytecheck.specs.Passed.{Passed, none, more}
 use Rattle.bytecheck.specs.Quick.{SettledFrom, idle_at}
 use Rattle.bytecheck.specs.Pairs.{spacings_of, limits_of, Clear, FreeFrom, stamps_of, track_at, Tracked}
-use Rattle.stamps.specs.declared.Past.{Past}
+use Rattle.stamps.specs.declared.Kept.{Kept}
 use Rattle.bytecheck.specs.declared.pairs.Track.{Track}
-use Rattle.bytecheck.proofs.Passing.{far, Kept, accessed, opening-passes, access-passes, passed_on, desl_quiet, quiet_on}
+use Rattle.bytecheck.proofs.Passing.{far, Keeping, accessed, opening-passes, access-passes, passed_on, desl_quiet, quiet_on}
 use Rattle.bytecheck.proofs.Lanes.{unreserved}
 
 -- an event that is not near is not so later
@@ -141,8 +141,8 @@ module _ (t : Timing) (ws : List ℕ) (s : Timestamps) (at last row pair : ℕ) 
   pair-passed inside limited due words of-bank free clear read write =
       let small : kind_of < 2 = omega arith in
       let allowed = free kind_of (at + 1) small limited clear.late in
-      let p : Past = record { clock = at + 1; met = pair % 2 ^ 32; stamps = s } in
-      let kept : Kept t s (at + 1) (pair % 2 ^ 32) (pair / 2 ^ 32) =
+      let p : Kept = record { clock = at + 1; met = pair % 2 ^ 32; stamps = s } in
+      let kept : Keeping t s (at + 1) (pair % 2 ^ 32) (pair / 2 ^ 32) =
       record {
         driven = clear.driven;
         unreserved = unreserved t clear;

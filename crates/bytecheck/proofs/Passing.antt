@@ -23,7 +23,7 @@ use Rattle.breaches.proofs.ByKind.{at-lal}
 use Rattle.rules.proofs.Words.{run, run-passes}
 use Rattle.bytecheck.specs.Passed.{Passes, Passed, none, more}
 use Rattle.bytecheck.specs.Quick.{Settled, Quiet}
-use Rattle.stamps.specs.declared.Past.{Past}
+use Rattle.stamps.specs.declared.Kept.{Kept}
 
 -- an event that is far enough back is not near
 pub far : (k c n : ℕ) → c + n ≤ k → near k c n ≡ false
@@ -42,14 +42,14 @@ driven : (w : ℕ) → w / 2 ^ 18 ≡ 3 → w / 2 ^ 19 ≡ 1
 driven w e = omega arith
 
 -- the LAL word of a read or write that keeps every rule from 5 on
-pub record Kept (t : Timing) (s : Timestamps) (k first w : ℕ) : Type 0 where
+pub record Keeping (t : Timing) (s : Timestamps) (k first w : ℕ) : Type 0 where
   pub driven : w / 2 ^ 18 ≡ 3
   pub unreserved : lane_reserved t first w ≡ false
   pub rested : near k (bank_stamp t.four s first) t.rc ≡ false
   pub spaced : too_close (rda first) true t s.read s.write k ≡ false
   pub settled : Settled t s k
 
-lal-kept : (t : Timing) (s : Timestamps) (k first w : ℕ) → Kept t s k first w → closing_breach t s k first w ≡ 0
+lal-kept : (t : Timing) (s : Timestamps) (k first w : ℕ) → Keeping t s k first w → closing_breach t s k first w ≡ 0
 lal-kept t s k first w kept =
     let settled = kept.settled in
     sym
@@ -60,7 +60,7 @@ lal-kept t s k first w kept =
     (rw (← add-zero t.refc) at (sym settled.after_refresh)))
 
 -- the place after the LAL word of a read or write of a bank, with these last ones
-abbrev pub accessed : ℕ → Past → ℕ → ℕ → Past
+abbrev pub accessed : ℕ → Kept → ℕ → ℕ → Kept
 accessed bank p read write =
     let s = p.stamps in
     record {
@@ -79,10 +79,10 @@ accessed bank p read write =
     }
 
 -- the word at a place
-module _ (t : Timing) (ws : List ℕ) (p : Past) {w : ℕ} (inside : p.clock < length ws) (word : w ≡ get_or ws p.clock 0)
+module _ (t : Timing) (ws : List ℕ) (p : Kept) {w : ℕ} (inside : p.clock < length ws) (word : w ≡ get_or ws p.clock 0)
     (due : overdue (deadline t.refi p.stamps.refs) p.clock ≡ false) where
   -- the place behind it, with the same timestamps
-  abbrev behind : ℕ → Past
+  abbrev behind : ℕ → Kept
   behind first = record { clock = p.clock + 1; met = first; stamps = p.stamps }
 
   -- the first word of a pair, where nothing is met
@@ -115,7 +115,7 @@ module _ (t : Timing) (ws : List ℕ) (p : Past) {w : ℕ} (inside : p.clock < l
       }
 
   -- the LAL word of a read or write
-  pub access-passes : high 18 p.met ≡ false → {bank : ℕ} → bank ≡ bank_of t.four p.met → Kept t p.stamps p.clock p.met w
+  pub access-passes : high 18 p.met ≡ false → {bank : ℕ} → bank ≡ bank_of t.four p.met → Keeping t p.stamps p.clock p.met w
       → {read write : ℕ} → read ≡ cond {A = ℕ} (rda p.met) p.clock p.stamps.read
       → write ≡ cond {A = ℕ} (rda p.met) p.stamps.write p.clock → Passes t ws p (accessed bank p read write)
   access-passes opened of-bank kept read write =
@@ -135,7 +135,7 @@ pub low_quiet : Quiet 0x40000 19 0
 low_quiet t s k w pd due = (rw (lt-leb (2 ^ 20) w (omega arith), pd, due), rw pd)
 
 -- where no word is passed
-pub stays : (t : Timing) (ws : List ℕ) (p : Past) → Passed t ws p p
+pub stays : (t : Timing) (ws : List ℕ) (p : Kept) → Passed t ws p p
 stays t ws p = none
 
 -- any number of words from clock k on that are quiet
@@ -151,29 +151,29 @@ quiet_on shift top quiet t s ws k (suc n) words due =
     (more (quiet_on shift top quiet t s ws k n (λ i h. words i (omega arith)) (λ i h. due i (omega arith)))
     (record { inside = here.0; sound = sound.0; leads = sound.1 }))
 
-pub passed_on : {t : Timing} {ws : List ℕ} {p q r : Past} → Passed t ws p q → Passed t ws q r → Passed t ws p r
+pub passed_on : {t : Timing} {ws : List ℕ} {p q r : Kept} → Passed t ws p q → Passed t ws q r → Passed t ws p r
 passed_on before none = before
 passed_on before (more on h) = more (passed_on before on) h
 
 -- whatever was passed is there
-pub passed-inside : {t : Timing} {ws : List ℕ} {p q : Past} → Passed t ws p q → p.clock < q.clock → q.clock ≤ length ws
+pub passed-inside : {t : Timing} {ws : List ℕ} {p q : Kept} → Passed t ws p q → p.clock < q.clock → q.clock ≤ length ws
 passed-inside none h = absurd (omega arith)
 passed-inside (more before last) h = rw last.leads (omega (arith, last.inside))
 
-pub passed-onward : {t : Timing} {ws : List ℕ} {p q : Past} → Passed t ws p q → p.clock ≤ q.clock
+pub passed-onward : {t : Timing} {ws : List ℕ} {p q : Kept} → Passed t ws p q → p.clock ≤ q.clock
 passed-onward none = omega arith
 passed-onward (more before h) = rw h.leads (omega (arith, passed-onward before))
 
 -- the judgement from a place on
-abbrev pub run_from : Timing → List ℕ → Past → Judgement
+abbrev pub run_from : Timing → List ℕ → Kept → Judgement
 run_from t ws p = run t p.stamps p.clock p.met (drop p.clock ws)
 
 module _ (t : Timing) (ws : List ℕ) where
-  pub passes-run : {p q : Past} → Passes t ws p q → run_from t ws p ≡ run_from t ws q
+  pub passes-run : {p q : Kept} → Passes t ws p q → run_from t ws p ≡ run_from t ws q
   passes-run {p} h =
       run-passes t p.stamps p.met ws p.clock h.inside refl refl h.sound refl refl
       ∙ ap (run_from t ws) (sym h.leads)
 
-  pub passed-run : {p q : Past} → Passed t ws p q → run_from t ws p ≡ run_from t ws q
+  pub passed-run : {p q : Kept} → Passed t ws p q → run_from t ws p ≡ run_from t ws q
   passed-run none = refl
   passed-run (more before h) = passed-run before ∙ passes-run h

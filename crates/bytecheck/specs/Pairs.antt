@@ -6,7 +6,7 @@ use Rattle.config.specs.declared.Timing.{Timing}
 use Rattle.stamps.specs.declared.Timestamps.{Timestamps}
 use Rattle.rules.specs.Breaches.{too_close}
 use Rattle.bytecheck.specs.Quick.{Settled, InTime, idle_at}
-use Rattle.stamps.specs.declared.Past.{Past}
+use Rattle.stamps.specs.declared.Kept.{Kept}
 use Rattle.bytecheck.specs.declared.quick.Limits.{Limits}
 use Rattle.bytecheck.specs.declared.pairs.Track.{Track}
 
@@ -63,7 +63,7 @@ stamps_of k =
     }
 
 -- the place where a track stands
-abbrev pub track_at : Track → Past
+abbrev pub track_at : Track → Kept
 track_at k = idle_at k.clock (stamps_of k)
 
 -- what holds of a track

@@ -7,7 +7,7 @@ use Rattle.command.specs.Pairs.{desl}
 use Rattle.rules.specs.Breaches.{near, deadline, overdue, not_ready, word_breach}
 use Rattle.stamps.specs.declared.Timestamps.{Timestamps}
 use Rattle.bytecheck.specs.Passed.{next, Passed}
-use Rattle.stamps.specs.declared.Past.{Past}
+use Rattle.stamps.specs.declared.Kept.{Kept}
 
 -- a read or write that closes at k breaches none of rules 6, 9 and 10
 pub record Settled (t : Timing) (s : Timestamps) (k : ℕ) : Type 0 where
@@ -28,7 +28,7 @@ InTime t s end = (k : ℕ) → k < end → overdue (deadline t.refi s.refs) k �
 abbrev pub Quiet : ℕ → ℕ → ℕ → Type 0
 Quiet first shift top =
     (t : Timing) (s : Timestamps) (k w : ℕ) → w / 2 ^ shift ≡ top → overdue (deadline t.refi s.refs) k ≡ false
-    → let p : Past = record { clock = k; met = first; stamps = s } in
+    → let p : Kept = record { clock = k; met = first; stamps = s } in
     (word_breach t s k first w ≡ 0) × (record { clock = k + 1; met = first; stamps = s } ≡ next t.four p w)
 
 -- the words from clock k to j do, in every state in which such words do
@@ -38,7 +38,7 @@ RunPassed shift top end words k j =
     → Passed t words (record { clock = k; met = first; stamps = s }) (record { clock = j; met = first; stamps = s })
 
 -- the place at a clock where nothing is met
-abbrev pub idle_at : ℕ → Timestamps → Past
+abbrev pub idle_at : ℕ → Timestamps → Kept
 idle_at k s = record { clock = k; met = desl; stamps = s }
 
 -- the words from clock k to j lead there again
@@ -48,5 +48,5 @@ IdlePassed t s end words k j = InTime t s end → Passed t words (idle_at k s) (
 -- they lead from asleep to asleep
 abbrev pub LowPassed : Timing → Timestamps → List ℕ → ℕ → ℕ → Type 0
 LowPassed t s words k j =
-    let at : ℕ → Past = λ k. record { clock = k; met = asleep; stamps = s } in
+    let at : ℕ → Kept = λ k. record { clock = k; met = asleep; stamps = s } in
     Passed t words (at k) (at j)

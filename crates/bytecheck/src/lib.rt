@@ -17,17 +17,17 @@ use breaches::word_breach;
 use checker::Breach;
 use config::{Config, Timing};
 use skim::skimmed;
-use stamps::{Past, next_met};
+use stamps::{Kept, next_met};
 
 // Behind a word that breaches nothing, with four banks or eight.
-fn behind(past: Past, four: bool, word: u32) -> Past
-    requires { past.clock < 16777216 }
-    ensures { result ≡ next four past word }
+fn behind(kept: Kept, four: bool, word: u32) -> Kept
+    requires { kept.clock < 16777216 }
+    ensures { result ≡ next four kept word }
 {
-    Past {
-        clock: past.clock + 1,
-        met: next_met(past.met, word),
-        stamps: past.stamps.after(four, past.clock, past.met, word),
+    Kept {
+        clock: kept.clock + 1,
+        met: next_met(kept.met, word),
+        stamps: kept.stamps.after(four, kept.clock, kept.met, word),
     }
 }
 
@@ -37,21 +37,21 @@ fn judged_bytes(timing: Timing, bytes: &[u8]) -> Option<Breach>
     ensures { judgement_of result ≡ judge timing (words_of bytes.now) }
 {
     let figures = timing.figures();
-    let mut past = Past::start();
-    while (past.clock as usize) < bytes.len() / 4 {
-        past = skimmed(timing, bytes, past);
-        let clock = past.clock;
+    let mut kept = Kept::start();
+    while (kept.clock as usize) < bytes.len() / 4 {
+        kept = skimmed(timing, bytes, kept);
+        let clock = kept.clock;
         if bytes.len() / 4 <= clock as usize {
             break;
         }
         let word = words::word_at(bytes, clock as usize);
-        if let Some(rule) = word_breach(timing, past, word) {
+        if let Some(rule) = word_breach(timing, kept, word) {
             return Some(Breach {
                 clock,
                 number: rule.number(),
             });
         }
-        past = behind(past, figures.four, word);
+        kept = behind(kept, figures.four, word);
     }
     None
 }

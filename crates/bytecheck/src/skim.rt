@@ -9,7 +9,7 @@ use crate::idle::{past_idle, past_low};
 use crate::pairs::{Track, past_gaps, past_pairs};
 use crate::quick::{free_from, in_time};
 use config::Timing;
-use stamps::{DESL, POWERED_DOWN, Past, Timestamps};
+use stamps::{DESL, Kept, POWERED_DOWN, Timestamps};
 
 // The timestamps of a track, with the last read and write.
 fn current(track: Track) -> Timestamps
@@ -25,7 +25,7 @@ fn current(track: Track) -> Timestamps
 // From a clock on where nothing is met: DESL, sleeps, reads and writes. Neither the end nor the clock from which on reads and writes are
 // allowed changes by these. DESL comes first, since a long run of it often stands behind a refresh; where it ends pairs are tried, and
 // where they were tried before and nothing is passed since, the skim ends.
-fn skim(timing: Timing, bytes: &[u8], from: Timestamps, start: u32) -> Past
+fn skim(timing: Timing, bytes: &[u8], from: Timestamps, start: u32) -> Kept
     requires { length bytes.now / 4 ≤ 16777216 }
     ensures { Passed timing (words_of bytes.now) (idle_at start from) result }
 {
@@ -42,7 +42,7 @@ fn skim(timing: Timing, bytes: &[u8], from: Timestamps, start: u32) -> Past
         let stamps = current(track);
         let after = past_idle(timing, bytes, stamps, track.clock as u32, end);
         if tried & (after as u64 == track.clock) {
-            return Past {
+            return Kept {
                 clock: after,
                 met: DESL,
                 stamps,
@@ -56,7 +56,7 @@ fn skim(timing: Timing, bytes: &[u8], from: Timestamps, start: u32) -> Past
 }
 
 // Goes on as long as words surely breach nothing.
-pub(crate) fn skimmed(timing: Timing, bytes: &[u8], from: Past) -> Past
+pub(crate) fn skimmed(timing: Timing, bytes: &[u8], from: Kept) -> Kept
     requires { length bytes.now / 4 ≤ 16777216 }
     ensures { Passed timing (words_of bytes.now) from result }
 {
@@ -65,7 +65,7 @@ pub(crate) fn skimmed(timing: Timing, bytes: &[u8], from: Past) -> Past
     }
     if from.met == POWERED_DOWN {
         let clock = past_low(timing, bytes, from.stamps, from.clock);
-        return Past { clock, ..from };
+        return Kept { clock, ..from };
     }
     from
 }

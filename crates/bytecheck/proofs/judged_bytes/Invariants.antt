@@ -5,8 +5,8 @@ use Rattle.rules.specs.Verdict.{judge}
 use Rattle.bytecheck.proofs.Passing.{run_from}
 use Rattle.bytecheck.proofs.judged_bytes.Given as goal
 
-abbrev pub invariant-loop-past : goal.invariant-loop-past
-invariant-loop-past l = judge l.timing (words_of l.bytes) ≡ run_from l.timing (words_of l.bytes) l.past
+abbrev pub invariant-loop-kept : goal.invariant-loop-kept
+invariant-loop-kept l = judge l.timing (words_of l.bytes) ≡ run_from l.timing (words_of l.bytes) l.kept
 
-abbrev pub decreases-loop-past : goal.decreases-loop-past
-decreases-loop-past l = length l.bytes / 4 - l.past.clock
+abbrev pub decreases-loop-kept : goal.decreases-loop-kept
+decreases-loop-kept l = length l.bytes / 4 - l.kept.clock
