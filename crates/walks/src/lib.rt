@@ -37,7 +37,7 @@ fn at_end(checker: Checker) -> Result<Progress, Refusal>
     ensures { progress_outcome result ≡ at_end checker }
 {
     checker.config.timing()?;
-    if !past_fits(checker.past()) {
+    if !past_fits(checker.kept()) {
         return Err(Refusal::State);
     }
     Ok(Progress::End)
