@@ -2,7 +2,7 @@
 ghost use Rattle.std.specs.Prelude.{◌≡◌};
 ghost use Rattle.controller.specs.Steps.{offered, offer_of, ticked, tick_of};
 
-use borrowed::{offer, tick};
+use borrowed::{Given, offer, tick};
 use command::Request;
 use controller::{Controller, Offered, Ticked};
 
@@ -18,10 +18,10 @@ pub fn offer_through(mut controller: Controller, request: Request) -> Offered
 pub fn tick_through(mut controller: Controller) -> Ticked
     ensures { ticked result ≡ tick_of controller }
 {
-    let given = tick(&mut controller);
+    let Given { answer, word } = tick(&mut controller);
     Ticked {
-        answer: given.answer,
-        word: given.word,
+        answer,
+        word,
         controller,
     }
 }

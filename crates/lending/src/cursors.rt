@@ -2,15 +2,17 @@
 ghost use Rattle.walks.specs.Walk.{MovePromised};
 
 use checker::Checker;
-use cursor::{advance, new};
+use cursor::{TraceCursor, advance};
 use walks::Moved;
 
 // One advance of a walk over the words that has reached this checker.
 pub fn advance_through(words: &[u32], reached: Checker) -> Moved
     ensures { MovePromised reached words.now result }
 {
-    let mut cursor = new(words, reached.config);
-    cursor.checker = reached;
+    let mut cursor = TraceCursor {
+        words,
+        checker: reached,
+    };
     let progress = advance(&mut cursor);
     Moved {
         progress,
