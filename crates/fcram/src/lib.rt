@@ -10,18 +10,19 @@ ghost use Rattle.config.specs.Configuration.{config_of};
 ghost use Rattle.fcram.specs.Number.{number_of};
 ghost use Rattle.fcram.specs.Range.{Small};
 
-use checker::Verdict;
+use basics::Refusal;
+use checker::Breach;
 use config::Config;
 
 // A verdict as one number (RULES 10.1).
-fn number(verdict: Verdict) -> u32
+fn number(verdict: Result<Option<Breach>, Refusal>) -> u32
     requires { Small (verdict_outcome verdict) }
     ensures { result ≡ number_of (verdict_outcome verdict) }
 {
     match verdict {
-        Verdict::Accepted => 0,
-        Verdict::InBreach(breach) => breach.clock * 64 + breach.number,
-        Verdict::Refused(why) => why.number(),
+        Ok(None) => 0,
+        Ok(Some(breach)) => breach.clock * 64 + breach.number,
+        Err(why) => why.number(),
     }
 }
 
@@ -32,7 +33,8 @@ pub(crate) fn checked(config: Config, trace: &[u8]) -> u32
     number(bytecheck::check_bytes(config, trace))
 }
 
-// Checks a trace on the configuration that the ten numbers make, which has eight banks.
+// Checks a trace on the configuration that the ten numbers make, which has eight banks. The numbers stay arguments, one by one, as programs
+// in C are compiled with them.
 pub fn fcram_check(
     grade: u32,
     cl: u32,

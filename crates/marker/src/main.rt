@@ -6,26 +6,22 @@ mod mark;
 ghost use Rattle.std.specs.Prelude.{◌≤◌};
 
 use line::Line;
-use std::io::Stdout;
+use std::io::{self, Stdout};
 
-// Writes the line to standard output; false where not all of it was taken.
-fn write(stdout: Stdout, line: Line) -> bool
+// Writes the whole line to standard output.
+fn write(stdout: Stdout, line: Line) -> io::Result<()>
     requires { line.len ≤ 40 }
 {
-    let bytes = line.bytes;
-    let len = line.len;
-    stdout.write_all(&bytes[..len]).is_ok()
+    stdout.write_all(&line.bytes[..line.len])
 }
 
 fn main(rt: HostRuntime) {
     let mut buffer = [0u8; 65537];
-    let input = input::read(rt.stdin(), &mut buffer);
-    if input.failed {
+    let Ok(count) = input::read(rt.stdin(), &mut buffer) else {
         let _ = rt.stderr().write_all(b"marker: the input cannot be read\n");
         return;
-    }
-    let count = input.count;
-    if !write(rt.stdout(), mark::line_of(&buffer[..count])) {
+    };
+    if write(rt.stdout(), mark::line_of(&buffer[..count])).is_err() {
         let _ = rt
             .stderr()
             .write_all(b"marker: the line cannot be written\n");

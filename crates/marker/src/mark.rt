@@ -7,14 +7,14 @@ ghost use Rattle.checker.specs.Steps.{verdict_outcome};
 ghost use Rattle.marker.specs.Mark.{line_by, line_of};
 
 use basics::Refusal;
-use checker::Verdict;
+use checker::Breach;
 use config::Config;
 use line::Line;
 
 fn accepted(count: u32) -> Line
     ensures { (text result ≡ line_by count (value accepted)) × (result.len ≤ 40) }
 {
-    Line::empty().piece(b"accepted ").number(count).push(10)
+    Line::empty().piece(b"accepted ").number(count).push(b'\n')
 }
 
 fn in_breach(clock: u32, number: u32) -> Line
@@ -23,25 +23,25 @@ fn in_breach(clock: u32, number: u32) -> Line
     Line::empty()
         .piece(b"breach ")
         .number(clock)
-        .push(32)
+        .push(b' ')
         .number(number)
-        .push(10)
+        .push(b'\n')
 }
 
 fn refused(why: u32) -> Line
     ensures { (text result ≡ line_by 0 (refused why)) × (result.len ≤ 40) }
 {
-    Line::empty().piece(b"refused ").number(why).push(10)
+    Line::empty().piece(b"refused ").number(why).push(b'\n')
 }
 
 // The line for a verdict on so many words.
-fn line_by(count: u32, verdict: Verdict) -> Line
+fn line_by(count: u32, verdict: Result<Option<Breach>, Refusal>) -> Line
     ensures { (text result ≡ line_by count (verdict_outcome verdict)) × (result.len ≤ 40) }
 {
     match verdict {
-        Verdict::Accepted => accepted(count),
-        Verdict::InBreach(breach) => in_breach(breach.clock, breach.number),
-        Verdict::Refused(why) => refused(why.number()),
+        Ok(None) => accepted(count),
+        Ok(Some(breach)) => in_breach(breach.clock, breach.number),
+        Err(why) => refused(why.number()),
     }
 }
 
