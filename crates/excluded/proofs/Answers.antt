@@ -29,7 +29,8 @@ use Rattle.basics.specs.declared.refusal.Refusal.TheVariants.{
 use Rattle.rules.specs.Verdict.{Judgement, accepted, breach}
 use Rattle.checker.specs.Steps.{judgement_of, verdict_outcome}
 use Rattle.checker.specs.declared.checker.Breach.{Breach}
-use Rattle.limits.specs.Limits.{Finding, always, breach_on, finding_of, finding_outcome}
+use Rattle.limits.specs.Limits.{Finding, always, breach_on}
+use Rattle.limits.specs.Answers.{finding_of}
 use Rattle.limits.specs.declared.BreachOn.{BreachOn}
 use Rattle.rules.specs.Turns.{Turn, closed, single}
 use Rattle.turns.specs.OneTurn.{turn_outcome}

@@ -4,8 +4,8 @@ use mathlib.Core.Path.{◌≡◌, sym, ap}
 use native.Mathlib.Omega.{arith}
 use Rattle.basics.proofs.Outcomes.{refused-value}
 use Rattle.controller.specs.declared.Controller.{Controller}
-use Rattle.controller.specs.declared.CallAnswer.{CallAnswer}
-use Rattle.controller.specs.declared.CallAnswer.TheVariants.{Accepted}
+use Rattle.std.specs.Prelude.{Ok}
+use Rattle.controller.specs.Steps.{CallAnswer}
 use Rattle.model.specs.Traces.{bank0_read}
 use Rattle.model.specs.Runs.{offer, tick}
 use Rattle.borrowed.specs.Promised.{OfferPromised, TickPromised}
@@ -26,10 +26,10 @@ calls =
     record {
       offer_lost = λ a. no_offer begun a begun (λ p. let z : ◌≡◌ {A = ℕ} 0 1 = ap (λ o. o.after.count) p in omega arith);
       offer_twice = λ a. no_offer begun a _ (λ p. let z : ◌≡◌ {A = ℕ} 2 1 = ap (λ o. o.after.count) p in omega arith);
-      offer_seventeenth = λ after. no_offer full Accepted after (λ p. refused-value (sym (ap (λ o. o.outcome) p)));
+      offer_seventeenth = λ after. no_offer full (Ok tt) after (λ p. refused-value (sym (ap (λ o. o.outcome) p)));
       offer-refused-counted = λ a. no_offer full a _ (λ p. let z : ◌≡◌ {A = ℕ} 17 16 = ap (λ o. o.after.count) p in omega arith);
       tick-stays = λ a w. no_tick begun a w begun (λ p. let z : ◌≡◌ {A = ℕ} 0 1 = ap (λ k. k.after.clock) p in omega arith);
       tick_twice = λ a w. no_tick begun a w _ (λ p. let z : ◌≡◌ {A = ℕ} 2 1 = ap (λ k. k.after.clock) p in omega arith);
-      tick-past_the_limit = λ w after. no_tick last Accepted w after (λ p. refused-value (sym (ap (λ k. k.outcome) p)));
+      tick-past_the_limit = λ w after. no_tick last (Ok tt) w after (λ p. refused-value (sym (ap (λ k. k.outcome) p)));
       tick-refused-desl = λ a after. no_tick last a 0xC0000 after (λ p. let z : ◌≡◌ {A = ℕ} 0xC0000 0 = ap (λ k. k.word) p in omega arith);
     }

@@ -19,6 +19,7 @@ use Rattle.rules.specs.History.{ClosedPair, free, past_from}
 use Rattle.queue.specs.Queue.{vacant}
 use Rattle.scheduler.specs.Pairs.{is_open}
 use Rattle.controller.specs.Steps.{
+  CallAnswer,
   held,
   call_outcome,
   state_fits,
@@ -33,7 +34,7 @@ use Rattle.controller.specs.Steps.{
   tick_of,
 }
 use Rattle.controller.specs.declared.Controller.{Controller}
-use Rattle.controller.specs.declared.CallAnswer.{CallAnswer}
+use Rattle.std.specs.Prelude.{Ok, Err}
 use Rattle.rules.specs.Turns.{pairs_of, starts}
 use Rattle.model.specs.Runs.{Call, offer, tick, Accepted, Run, prescribed, access_open, latest_start}
 use Rattle.forms.specs.EitherForm.{Form, by_value, borrowed, Promised}
@@ -155,33 +156,33 @@ controllers =
       request_lost = λ t r h e. omega (arith, length-append (put_out t r) (held r.controller), ap length e);
       offer-27 =
           λ s after q h.
-          no_offer s after q (CallAnswer.Refused QueueFull)
+          no_offer s after q (Err QueueFull)
           (given-not 27 (timing_of s.config) (offer_answer s q) (config-between s.config 27 (omega arith) (omega arith))
           (λ t. require-not (state_fits t s) 19 27 _ (λ e. omega arith)
           (require-not (request_fits t q) 26 27 _ (λ e. omega arith) (rw (lt-ltb s.count 16 (omega arith)) (value_not 27 tt)))));
       offer-26 =
           λ s after q t is fits.
-          no_offer s after q (CallAnswer.Refused Field)
+          no_offer s after q (Err Field)
           (rw (is, fits)
           (require-not (state_fits t s) 19 26 _ (λ e. omega arith)
           (require-not (ltb s.count 16) 27 26 _ (λ e. omega arith) (value_not 26 tt))));
       tick-24 =
           λ s after word h.
-          no_tick s after word (CallAnswer.Refused ClockLimit)
+          no_tick s after word (Err ClockLimit)
           (given-not 24 (timing_of s.config) (tick_answer s) (config-between s.config 24 (omega arith) (omega arith))
           (λ t. require-not (state_fits t s) 19 24 _ (λ e. omega arith) (rw (lt-ltb s.clock 16777216 (omega arith)) (value_not 24 tt))));
       offer-past-27 =
           λ s after q h.
-          no_offer s after q CallAnswer.Accepted (λ e. let l = ltb-true s.count 16 (passed s q e).place in omega arith);
+          no_offer s after q (Ok tt) (λ e. let l = ltb-true s.count 16 (passed s q e).place in omega arith);
       offer-past-26 =
           λ s after q t is wrong.
-          no_offer s after q CallAnswer.Accepted
+          no_offer s after q (Ok tt)
           (λ e. let h = passed s q e in
           let same : h.timing ≡ t = cc h.accepted in
           false≢true (sym wrong ∙ ap (λ t. request_fits t q) (sym same) ∙ h.fits));
       tick-past-24 =
           λ s after word h.
-          no_tick s after word CallAnswer.Accepted
+          no_tick s after word (Ok tt)
           (λ e. let g = given-value (timing_of s.config) _ e in
           let state = require-value (state_fits g.0 s) _ _ g.2 in
           let l = ltb-true s.clock 16777216 (require-value (ltb s.clock 16777216) _ _ state.1).0 in

@@ -1,13 +1,11 @@
 -- Calls of a controller, of either form: what a wrong program would answer and leave at some state, which the contract excludes.
-use Rattle.std.specs.Prelude.{ℕ, replicate}
+use Rattle.std.specs.Prelude.{ℕ, replicate, Ok}
 use Rattle.command.specs.Pairs.{desl}
 use Rattle.basics.specs.Numbers.{limit}
 use Rattle.config.specs.Configuration.{institute}
 use Rattle.controller.specs.States.{fresh}
-use Rattle.controller.specs.Steps.{joined, tick_of}
+use Rattle.controller.specs.Steps.{CallAnswer, joined, tick_of}
 use Rattle.controller.specs.declared.Controller.{Controller}
-use Rattle.controller.specs.declared.CallAnswer.{CallAnswer}
-use Rattle.controller.specs.declared.CallAnswer.TheVariants.{Accepted}
 use Rattle.model.specs.Traces.{bank0_read}
 use Rattle.model.specs.Runs.{Call, offer, tick}
 use Rattle.forms.specs.EitherForm.{Form, Promised}
@@ -37,7 +35,7 @@ pub record Calls : Type 0 where
   -- one that is made twice
   pub offer_twice : (a : CallAnswer) → Never begun (offer bank0_read) a 0 (joined (joined begun bank0_read) bank0_read)
   -- one that accepts a seventeenth request
-  pub offer_seventeenth : (after : Controller) → Never full (offer bank0_read) Accepted 0 after
+  pub offer_seventeenth : (after : Controller) → Never full (offer bank0_read) (Ok tt) 0 after
   -- one that counts it
   pub offer-refused-counted : (a : CallAnswer) → Never full (offer bank0_read) a 0 (joined full bank0_read)
   -- a tick that leaves the controller as it was
@@ -45,6 +43,6 @@ pub record Calls : Type 0 where
   -- one that is made twice
   pub tick_twice : (a : CallAnswer) (word : ℕ) → Never begun tick a word (tick_of (tick_of begun).after).after
   -- one that is accepted past the last clock
-  pub tick-past_the_limit : (word : ℕ) (after : Controller) → Never last tick Accepted word after
+  pub tick-past_the_limit : (word : ℕ) (after : Controller) → Never last tick (Ok tt) word after
   -- one that gives DESL there
   pub tick-refused-desl : (a : CallAnswer) (after : Controller) → Never last tick a desl after
