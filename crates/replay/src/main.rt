@@ -2,55 +2,56 @@
 // compared with another implementation.
 #![tactic(auto)]
 
-mod answers;
-mod calls;
 mod script;
+mod session;
 mod shown;
-mod sizes;
 mod states;
-mod ticks;
-mod traces;
 
-use checker::Checker;
 use config::Config;
-use controller::Controller;
+use script::Script;
+use session::Session;
 use std::io::Stdout;
 
 fn main(rt: HostRuntime) {
     let mut buffer = [0u8; 65537];
-    let input = input::read(rt.stdin(), &mut buffer);
-    if input.failed {
-        let _ = rt.stderr().write_all(b"replay: the input cannot be read\n");
-        return;
+    match input::read(rt.stdin(), &mut buffer) {
+        Ok(count) => run(rt.stdout(), &buffer[..count]),
+        Err(_) => {
+            let _ = eprintln!(rt; "replay: the input cannot be read");
+        }
     }
-    let count = input.count;
-    run(rt.stdout(), &buffer[..count]);
 }
 
-// At most 65,536 bytes, in whole words, one call after the other. A call is of one kind, and the functions of the others leave it alone.
 fn run(out: Stdout, bytes: &[u8]) {
-    if 65536 < bytes.len() {
-        answers::script_refused(out);
-        return;
+    if play(out, bytes).is_none() {
+        let _ = println!(out; "script refused");
     }
-    if bytes.len() % 4 != 0 {
-        answers::script_refused(out);
-        return;
-    }
-    let mut at = 0;
-    let mut config = Config::institute();
-    let mut checker = Checker::fresh(config);
-    let mut controller = Controller::fresh(config);
-    while at < bytes.len() / 4 {
-        let next = sizes::behind(bytes, at);
-        if next <= at {
-            answers::script_refused(out);
-            return;
+}
+
+// One call after the other. None at a script that is too long or not in whole words, and where a call is not listed or cut short.
+fn play(out: Stdout, bytes: &[u8]) -> Option<()> {
+    let mut buffer = [0u32; 16384];
+    let words = loaded(bytes, &mut buffer)?;
+    let mut script = Script(words);
+    let mut session = Session::fresh(out, Config::institute());
+    // A call takes one word at least.
+    for _ in 0..words.len() {
+        if script.0.is_empty() {
+            break;
         }
-        config = calls::configure(out, bytes, at, config);
-        calls::on_config(out, bytes, at, config);
-        checker = traces::after(out, bytes, at, config, checker);
-        controller = ticks::after(out, bytes, at, config, controller);
-        at = next;
+        session.call(&mut script)?;
     }
+    Some(())
+}
+
+// The words of the bytes, in the front of the buffer.
+fn loaded<'a>(bytes: &[u8], buffer: &'a mut [u32; 16384]) -> Option<&'a [u32]> {
+    if bytes.len() % 4 != 0 {
+        return None;
+    }
+    let words = buffer.get_mut(..bytes.len() / 4)?;
+    for (i, word) in words.iter_mut().enumerate() {
+        *word = words::word_at(bytes, i);
+    }
+    Some(words)
 }

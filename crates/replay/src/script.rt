@@ -1,65 +1,91 @@
-// The script's words.
-ghost use Rattle.std.specs.Prelude.{◌≡◌, length};
-
-use command::Request;
+// A script's words, and what they stand for.
+use command::{Operation, Pair, Request};
 use config::Config;
 
-// The index that is a number of words further on; 0 past any script.
-pub(crate) fn ahead(at: usize, count: usize) -> usize {
-    if at <= 65536 {
-        if count <= 65536 {
-            return at + count;
+// The words that are left. What is read is taken off their front; None where they end before it does.
+#[derive(Drop)]
+pub(crate) struct Script<'a>(pub(crate) &'a [u32]);
+
+impl<'a> Script<'a> {
+    pub(crate) fn number(&mut self) -> Option<u32> {
+        let [number] = self.numbers::<1>()?;
+        Some(number)
+    }
+
+    pub(crate) fn numbers<const N: usize>(&mut self) -> Option<[u32; N]> {
+        let (numbers, rest) = self.0.split_first_chunk()?;
+        self.0 = rest;
+        Some(*numbers)
+    }
+
+    // The words of a trace, behind their count.
+    pub(crate) fn trace(&mut self) -> Option<&'a [u32]> {
+        let count = self.number()?;
+        let (words, rest) = self.0.split_at_checked(count as usize)?;
+        self.0 = rest;
+        Some(words)
+    }
+
+    // A sheet of ten numbers.
+    pub(crate) fn config(&mut self) -> Option<Config> {
+        let [
+            grade,
+            cl,
+            bl,
+            organisation,
+            period,
+            rbd,
+            rwd,
+            wrd,
+            rsc,
+            refc,
+        ] = self.numbers::<10>()?;
+        Some(Config::from_numbers(
+            grade,
+            cl,
+            bl,
+            organisation,
+            period,
+            rbd,
+            rwd,
+            wrd,
+            rsc,
+            refc,
+        ))
+    }
+
+    // A sheet of eleven numbers: the ten, and its wiring.
+    pub(crate) fn wired(&mut self) -> Option<Config> {
+        let sheet = self.numbers::<11>()?;
+        Some(sheet.into())
+    }
+
+    pub(crate) fn request(&mut self) -> Option<Request> {
+        let [write, bank, row, column, lower, upper] = self.numbers::<6>()?;
+        let write = write != 0;
+        Some(Request {
+            write,
+            bank,
+            row,
+            column,
+            lower,
+            upper,
+        })
+    }
+
+    pub(crate) fn pair(&mut self) -> Option<Pair> {
+        let [first, second] = self.numbers::<2>()?;
+        Some(Pair { first, second })
+    }
+
+    // Its kind, and what goes with that.
+    pub(crate) fn operation(&mut self) -> Option<Operation> {
+        match self.number()? {
+            0 => Some(Operation::Access(self.request()?)),
+            1 => Some(Operation::Regular(self.number()? != 0)),
+            2 => Some(Operation::Extended(self.number()?)),
+            3 => Some(Operation::Refresh),
+            _ => None,
         }
     }
-    0
-}
-
-// The word that is a number of words further on.
-pub(crate) fn word(bytes: &[u8], at: usize, count: usize) -> u32 {
-    words::word_at(bytes, ahead(at, count))
-}
-
-// A sheet of ten numbers.
-pub(crate) fn config_at(bytes: &[u8], at: usize) -> Config {
-    Config::from_numbers(
-        word(bytes, at, 0),
-        word(bytes, at, 1),
-        word(bytes, at, 2),
-        word(bytes, at, 3),
-        word(bytes, at, 4),
-        word(bytes, at, 5),
-        word(bytes, at, 6),
-        word(bytes, at, 7),
-        word(bytes, at, 8),
-        word(bytes, at, 9),
-    )
-}
-
-// A sheet of eleven numbers: the ten, and its wiring.
-pub(crate) fn wired_at(bytes: &[u8], at: usize) -> Config {
-    let mut config = config_at(bytes, at);
-    config.wiring = word(bytes, at, 10);
-    config
-}
-
-pub(crate) fn request_at(bytes: &[u8], at: usize) -> Request {
-    Request {
-        write: word(bytes, at, 0) != 0,
-        bank: word(bytes, at, 1),
-        row: word(bytes, at, 2),
-        column: word(bytes, at, 3),
-        lower: word(bytes, at, 4),
-        upper: word(bytes, at, 5),
-    }
-}
-
-// The words from an index on, 0 behind the last.
-pub(crate) fn loaded(bytes: &[u8], at: usize) -> [u32; 16384]
-    ensures { 16384 ≡ length result }
-{
-    let mut buffer = [0u32; 16384];
-    for i in 0..16384 {
-        buffer[i] = word(bytes, at, i);
-    }
-    buffer
 }
