@@ -1,3 +1,2 @@
--- Turns of a walk, and six stores.
+-- Turns of a walk.
 pub mod Turns
-pub mod Places

@@ -1,17 +1,9 @@
--- A sheet as eleven numbers, and an answer as one.
-use Rattle.std.specs.Prelude.{ℕ, ◌+◌, ◌*◌, get_or, List}
-use Rattle.config.specs.Configuration.{wired_of}
-use Rattle.config.specs.declared.Config.{Config}
+-- An answer as one number.
+use Rattle.std.specs.Prelude.{ℕ, ◌+◌, ◌*◌}
 use Rattle.basics.specs.Outcome.{Outcome, value, refused}
 use Rattle.rules.specs.Verdict.{Judgement, accepted, breach}
 use Rattle.limits.specs.Limits.{Finding, always, breach_on}
 use Rattle.walks.specs.Walk.{Reached, passed, breached, ended}
-
--- the configuration of eleven numbers in the order of RULES 1.1
-abbrev pub sheet_of : List ℕ → Config
-sheet_of s =
-    wired_of (get_or s 0 0) (get_or s 1 0) (get_or s 2 0) (get_or s 3 0) (get_or s 4 0) (get_or s 5 0) (get_or s 6 0) (get_or s 7 0) (get_or s 8 0)
-    (get_or s 9 0) (get_or s 10 0)
 
 -- a breach is 2^40 and its clock times 64 and its number
 abbrev pub breach_number : ℕ → ℕ → ℕ

@@ -1,29 +1,12 @@
 -- The check in the limits of two sheets, and the sheet that is shown in a lent array.
-use Rattle.std.specs.Prelude.{ℕ, List, [], ◌∷◌}
+use Rattle.std.specs.Prelude.{ℕ, List}
 use Rattle.basics.specs.Outcome.{Outcome, value, refused}
-use Rattle.config.specs.declared.Config.{Config}
+use Rattle.config.specs.Configuration.{sheet_of, numbers_of}
 use Rattle.limits.specs.Limits.{Finding, always, breach_on, within_of}
-use Rattle.bulk.specs.Numbers.{sheet_of}
 
 -- the check in the limits of two sheets that are given by their numbers
 abbrev pub found_of : List ℕ → List ℕ → List ℕ → Outcome Finding
 found_of least greatest words = within_of (sheet_of least) (sheet_of greatest) words
-
--- the eleven numbers of a sheet, in the order of RULES 1.1
-abbrev pub numbers_of : Config → List ℕ
-numbers_of c =
-    c.grade
-    ∷ c.cl
-    ∷ c.bl
-    ∷ c.organisation
-    ∷ c.period.0
-    ∷ c.rbd.0
-    ∷ c.rwd.0
-    ∷ c.wrd.0
-    ∷ c.rsc.0
-    ∷ c.refc.0
-    ∷ c.wiring
-    ∷ []
 
 -- a sheet that is shown stands in the places; otherwise they stay
 abbrev pub shown_in : Outcome Finding → List ℕ → List ℕ

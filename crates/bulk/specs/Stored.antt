@@ -2,7 +2,7 @@
 use Rattle.std.specs.Prelude.{ℕ, List, ◌∷◌, cond, length, drop, leb}
 use Rattle.counts.specs.Counts.{Counting, counting_of}
 use Rattle.counts.specs.declared.CommandCounts.{CommandCounts}
-use Rattle.bulk.specs.Numbers.{sheet_of}
+use Rattle.config.specs.Configuration.{sheet_of}
 
 -- the call on a sheet that is given by its numbers
 abbrev pub counted_of : List ℕ → List ℕ → Counting

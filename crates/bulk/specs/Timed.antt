@@ -3,7 +3,7 @@ use Rattle.std.specs.Prelude.{ℕ, List, [], ◌∷◌}
 use Rattle.basics.specs.Outcome.{Outcome, value, refused}
 use Rattle.duration.specs.Duration.{duration_of}
 use Rattle.duration.specs.declared.Duration.{Duration}
-use Rattle.bulk.specs.Numbers.{sheet_of}
+use Rattle.config.specs.Configuration.{sheet_of}
 
 -- the call on a sheet that is given by its numbers
 abbrev pub timed_of : List ℕ → ℕ → Outcome Duration

@@ -3,20 +3,16 @@ ghost use Rattle.std.specs.Prelude.{◌≡◌};
 ghost use Rattle.walks.specs.Walk.{progress_outcome, moved};
 ghost use Rattle.bulk.specs.Walks.{is_pass, walk_from, walk_of};
 
+use basics::Refusal;
 use checker::Checker;
 use config::Config;
 use lending::advance_through;
 use walks::{Moved, Progress};
 
-fn passes(progress: Progress) -> bool
+fn passes(progress: Result<Progress, Refusal>) -> bool
     ensures { result ≡ is_pass (progress_outcome progress) }
 {
-    match progress {
-        Progress::Passed => true,
-        Progress::InBreach(_) => false,
-        Progress::Refused(_) => false,
-        Progress::End => false,
-    }
+    matches!(progress, Ok(Progress::Passed))
 }
 
 // At most so many advances.
@@ -24,18 +20,15 @@ fn walk_from(words: &[u32], checker: Checker, most: usize) -> Moved
     ensures { moved result ≡ walk_from most checker words.now }
 {
     let mut now = checker;
-    let mut left = most;
-    while 0 < left {
+    for _ in 0..most {
         let moved = advance_through(words, now);
-        let progress = moved.progress;
-        if !passes(progress) {
+        if !passes(moved.progress) {
             return moved;
         }
         now = moved.checker;
-        left -= 1;
     }
     Moved {
-        progress: Progress::Passed,
+        progress: Ok(Progress::Passed),
         checker: now,
     }
 }

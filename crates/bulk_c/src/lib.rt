@@ -3,7 +3,8 @@
 
 ghost use Rattle.std.specs.Prelude.{◌≡◌};
 ghost use Rattle.rules.specs.Verdict.{check_of};
-ghost use Rattle.bulk.specs.Numbers.{sheet_of, check_number, finding_number, walk_number};
+ghost use Rattle.config.specs.Configuration.{sheet_of};
+ghost use Rattle.bulk.specs.Numbers.{check_number, finding_number, walk_number};
 ghost use Rattle.bulk.specs.Walks.{walk_of, again_of};
 ghost use Rattle.bulk.specs.Stored.{counted_of, stored};
 ghost use Rattle.bulk.specs.Shown.{found_of, shown_in};
