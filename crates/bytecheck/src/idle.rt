@@ -3,22 +3,23 @@ ghost use Rattle.std.specs.Prelude.{◌≤◌, ◌<◌, ◌/◌, ◌%◌, length
 ghost use Rattle.words.specs.Words.{words_of};
 ghost use Rattle.bytecheck.specs.Quick.{RunPassed, IdlePassed, LowPassed};
 
-use crate::pairs::BELOW_CS;
+use crate::pairs::DESLS;
 use crate::quick::in_time;
 use breaches::must_stay_high;
 use command::pins::CS;
 use config::Timing;
+use runs::Upper;
 use stamps::Timestamps;
 
-// How many bits stand below the pin PD.
-const BELOW_PD: u32 = 19;
+// The words with PD low: the pin stands above 19 bits.
+const LOW: Upper = Upper { shift: 19, top: 0 };
 
-// Passes over the words from a clock on that stand before `end` and are `top` without their `shift` lowest bits.
-fn past_run(bytes: &[u8], clock: u32, end: u64, shift: u32, top: u32) -> u32
+// Passes over the words from a clock on that stand before `end` and agree.
+fn past_run(bytes: &[u8], clock: u32, end: u64, upper: Upper) -> u32
     requires { (length bytes.now / 4 ≤ 16777216) × (end ≤ length bytes.now / 4) }
-    ensures { (clock ≤ result) × RunPassed (shift % 32) top end (words_of bytes.now) clock result }
+    ensures { (clock ≤ result) × RunPassed upper.shift upper.top end (words_of bytes.now) clock result }
 {
-    runs::past_run(bytes, clock as usize, end as usize, shift, top) as u32
+    runs::past_run(bytes, clock as usize, end as usize, upper) as u32
 }
 
 // Passes over a whole sleep: the word at the clock, which goes low, those with PD low behind it, and the two wake-up words. The clock
@@ -35,7 +36,7 @@ fn past_power_down(timing: Timing, bytes: &[u8], stamps: Timestamps, clock: u32,
     if must_stay_high(timing, stamps, clock) {
         return clock;
     }
-    let at = past_run(bytes, clock + 1, end, BELOW_PD, 0);
+    let at = past_run(bytes, clock + 1, end, LOW);
     if end < u64::from(at) + 2 {
         return clock;
     }
@@ -64,7 +65,7 @@ pub(crate) fn past_idle(
     }
     let word = words::word_at(bytes, clock as usize);
     if word / CS == 3 {
-        past_run(bytes, clock, end, BELOW_CS, 3)
+        past_run(bytes, clock, end, DESLS)
     } else {
         past_power_down(timing, bytes, stamps, clock, end)
     }
@@ -76,5 +77,5 @@ pub(crate) fn past_low(timing: Timing, bytes: &[u8], stamps: Timestamps, clock: 
     ensures { LowPassed timing stamps (words_of bytes.now) clock result }
 {
     let end = in_time(timing, stamps, (bytes.len() / 4) as u64);
-    past_run(bytes, clock, end, BELOW_PD, 0)
+    past_run(bytes, clock, end, LOW)
 }

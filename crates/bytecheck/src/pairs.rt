@@ -9,10 +9,11 @@ ghost use Rattle.bytecheck.specs.Pairs.{Tracked, track_at};
 use crate::quick::{Limits, clear};
 use command::address::bank;
 use config::Timing;
+use runs::Upper;
 use stamps::Timestamps;
 
-// How many bits stand below the pin CS.
-pub(crate) const BELOW_CS: u32 = 18;
+// The DESL words: PD and CS, above 18 bits, are high.
+pub(crate) const DESLS: Upper = Upper { shift: 18, top: 3 };
 
 // The marks of 29 pairs without a gap.
 const GAPLESS: u64 = 0x155555555555555;
@@ -67,7 +68,7 @@ pub(crate) fn past_gaps(timing: Timing, bytes: &[u8], from: Track, end: u64) -> 
     let mut track = from;
     while track.clock + 58 < end {
         let stop = track.clock + 58;
-        let mut marks = runs::marks_from(bytes, track.clock as usize, BELOW_CS, 3);
+        let mut marks = runs::marks_from(bytes, track.clock as usize, DESLS);
         if (marks == 0) | (marks == GAPLESS) {
             break;
         }

@@ -8,36 +8,54 @@ ghost use Rattle.std.specs.Prelude.{◌≡◌, true, ◌+◌, ◌/◌, ◌%◌, 
 ghost use Rattle.words.specs.Words.{words_of};
 ghost use Rattle.runs.specs.Runs.{agrees, leading, run_end, marks, marks_from};
 
-// Whether the word at an index is `top` without its `shift` lowest bits.
-fn agrees(bytes: &[u8], at: usize, shift: u32, top: u32) -> bool
-    requires { (at < length bytes.now / 4) × (shift < 32) }
-    ensures { result ≡ agrees shift top (get_or (words_of bytes.now) at 0) }
-{
-    words::word_at(bytes, at) >> shift == top
+// Words that agree in their upper bits: each is `top` without its `shift` lowest bits.
+#[derive(Clone, Copy)]
+pub struct Upper {
+    pub shift: u32,
+    pub top: u32,
+    pub ghost inside: { shift < 32 },
+}
+
+impl Upper {
+    // Of all but the lowest bits, as many as `shift` modulo 32.
+    pub fn new(shift: u32, top: u32) -> Upper
+        ensures { (result.shift ≡ shift % 32) × (result.top ≡ top) }
+    {
+        let shift = shift % 32;
+        Upper { shift, top }
+    }
+
+    // Whether the word at an index agrees.
+    fn agrees(self, bytes: &[u8], at: usize) -> bool
+        requires { at < length bytes.now / 4 }
+        ensures { result ≡ agrees self.shift self.top (get_or (words_of bytes.now) at 0) }
+    {
+        words::word_at(bytes, at) >> self.shift == self.top
+    }
 }
 
 // True only if the eight words from an index on agree.
-fn eight_agree(bytes: &[u8], at: usize, shift: u32, top: u32) -> bool
-    requires { (at + 8 ≤ length bytes.now / 4) × (shift < 32) }
-    ensures { result ≡ true → 8 ≤ leading shift top (drop at (words_of bytes.now)) }
+fn eight_agree(bytes: &[u8], at: usize, upper: Upper) -> bool
+    requires { at + 8 ≤ length bytes.now / 4 }
+    ensures { result ≡ true → 8 ≤ leading upper.shift upper.top (drop at (words_of bytes.now)) }
 {
     let mut all = true;
     for count in 0..8 {
-        all &= agrees(bytes, at + count, shift, top);
+        all &= upper.agrees(bytes, at + count);
     }
     all
 }
 
 // How many of the sixteen words from an index on come before the first that does not agree. How long a run is cannot be foreseen, so a
 // branch at each word would often go wrong.
-fn leading(bytes: &[u8], at: usize, shift: u32, top: u32) -> usize
-    requires { (at + 16 ≤ length bytes.now / 4) × (shift < 32) }
-    ensures { result ≡ min 16 (leading shift top (drop at (words_of bytes.now))) }
+fn leading(bytes: &[u8], at: usize, upper: Upper) -> usize
+    requires { at + 16 ≤ length bytes.now / 4 }
+    ensures { result ≡ min 16 (leading upper.shift upper.top (drop at (words_of bytes.now))) }
 {
     // A bit for each word that does not agree, the lowest for the first word.
     let mut marks: u32 = 0;
     for count in 0..16 {
-        if !agrees(bytes, at + count, shift, top) {
+        if !upper.agrees(bytes, at + count) {
             marks |= 1 << count;
         }
     }
@@ -45,12 +63,12 @@ fn leading(bytes: &[u8], at: usize, shift: u32, top: u32) -> usize
 }
 
 // Where a run ends, by one word a turn.
-fn past_singly(bytes: &[u8], from: usize, stop: usize, shift: u32, top: u32) -> usize
-    requires { (stop ≤ length bytes.now / 4) × (from ≤ stop) × (shift < 32) }
-    ensures { result ≡ run_end shift top stop (words_of bytes.now) from }
+fn past_singly(bytes: &[u8], from: usize, stop: usize, upper: Upper) -> usize
+    requires { (stop ≤ length bytes.now / 4) × (from ≤ stop) }
+    ensures { result ≡ run_end upper.shift upper.top stop (words_of bytes.now) from }
 {
     for at in from..stop {
-        if !agrees(bytes, at, shift, top) {
+        if !upper.agrees(bytes, at) {
             return at;
         }
     }
@@ -58,13 +76,14 @@ fn past_singly(bytes: &[u8], from: usize, stop: usize, shift: u32, top: u32) -> 
 }
 
 // An index from which the run ends where it does from the first, by eight words a turn.
-fn past_eights(bytes: &[u8], from: usize, stop: usize, shift: u32, top: u32) -> usize
-    requires { (stop ≤ length bytes.now / 4) × (from ≤ stop) × (shift < 32) }
-    ensures { (result ≤ stop) × (let ws = words_of bytes.now in run_end shift top stop ws result ≡ run_end shift top stop ws from) }
+fn past_eights(bytes: &[u8], from: usize, stop: usize, upper: Upper) -> usize
+    requires { (stop ≤ length bytes.now / 4) × (from ≤ stop) }
+    ensures { let ws = words_of bytes.now in
+        (result ≤ stop) × (run_end upper.shift upper.top stop ws result ≡ run_end upper.shift upper.top stop ws from) }
 {
     let mut at = from;
     while at + 8 <= stop {
-        if !eight_agree(bytes, at, shift, top) {
+        if !eight_agree(bytes, at, upper) {
             return at;
         }
         at += 8;
@@ -72,39 +91,38 @@ fn past_eights(bytes: &[u8], from: usize, stop: usize, shift: u32, top: u32) -> 
     at
 }
 
-// Where the run from an index on ends, of words that are `top` without their lowest bits, as many as `shift` modulo 32. Up to sixteen
-// words are passed at once, which are most runs between commands; then eight a turn, and what is left one by one.
-pub fn past_run(bytes: &[u8], from: usize, end: usize, shift: u32, top: u32) -> usize
-    ensures { result ≡ run_end (shift % 32) top end (words_of bytes.now) from }
+// Where the run from an index on ends, of words that agree. Up to sixteen words are passed at once, which are most runs between commands;
+// then eight a turn, and what is left one by one.
+pub fn past_run(bytes: &[u8], from: usize, end: usize, upper: Upper) -> usize
+    ensures { result ≡ run_end upper.shift upper.top end (words_of bytes.now) from }
 {
     let stop = end.min(bytes.len() / 4);
-    let shift = shift % 32;
     if stop <= from {
         return from;
     }
     if stop - from < 16 {
-        return past_singly(bytes, from, stop, shift, top);
+        return past_singly(bytes, from, stop, upper);
     }
-    let lead = leading(bytes, from, shift, top);
+    let lead = leading(bytes, from, upper);
     if lead < 16 {
         return from + lead;
     }
-    let at = past_eights(bytes, from + 16, stop, shift, top);
-    past_singly(bytes, at, stop, shift, top)
+    let at = past_eights(bytes, from + 16, stop, upper);
+    past_singly(bytes, at, stop, upper)
 }
 
 // A bit for each of the 29 words from an index on that does not agree, the lowest for the first word. The words are those of a part whose
 // length is known, so the compiler sees that each is there, and tests four at once. The first, whose bit is 1, it tests by itself: hence
 // one word more than seven times four.
-fn half_marks(bytes: &[u8], from: usize, shift: u32, top: u32) -> u32
-    requires { (from + 29 ≤ length bytes.now / 4) × (shift < 32) }
-    ensures { result ≡ marks shift top (words_of bytes.now) from 29 }
+fn half_marks(bytes: &[u8], from: usize, upper: Upper) -> u32
+    requires { from + 29 ≤ length bytes.now / 4 }
+    ensures { result ≡ marks upper.shift upper.top (words_of bytes.now) from 29 }
 {
     let start = 4 * from;
     let part = &bytes[start..start + 116];
     let mut marks: u32 = 0;
     for count in 0..29 {
-        if !agrees(part, count, shift, top) {
+        if !upper.agrees(part, count) {
             marks |= 1 << count;
         }
     }
@@ -114,16 +132,15 @@ fn half_marks(bytes: &[u8], from: usize, shift: u32, top: u32) -> u32
 // A bit for each of the 58 words from an index on that does not agree, where the bytes hold them all, and otherwise 0. Both halves are
 // asked for 0 before they are put together: else the compiler makes numbers of 64 bits of all bits, and tests two words at once. With
 // `u64::from` for `as` it tests fewer at once, too.
-pub fn marks_from(bytes: &[u8], from: usize, shift: u32, top: u32) -> u64
-    ensures { result ≡ marks_from (shift % 32) top (words_of bytes.now) from }
+pub fn marks_from(bytes: &[u8], from: usize, upper: Upper) -> u64
+    ensures { result ≡ marks_from upper.shift upper.top (words_of bytes.now) from }
 {
     let count = bytes.len() / 4;
-    let shift = shift % 32;
     if count < 58 || count - 58 < from {
         return 0;
     }
-    let low = half_marks(bytes, from, shift, top);
-    let high = half_marks(bytes, from + 29, shift, top);
+    let low = half_marks(bytes, from, upper);
+    let high = half_marks(bytes, from + 29, upper);
     if low == 0 && high == 0 {
         return 0;
     }

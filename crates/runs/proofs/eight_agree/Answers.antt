@@ -16,5 +16,5 @@ loop-count-preserved c =
     λ e.
     let h = both l.all c.agrees-all.result e in
     let inside : a.at + l.count < length ws = rw (words-length a.bytes.now) (omega arith) in
-    let on = lead-on a.shift a.top ws (a.at + l.count) inside c.agrees-all.ensures h.1 in
-    omega (arith, lead-past a.shift a.top ws l.count a.at (l.invariant h.0))
+    let on = lead-on a.upper.shift a.upper.top ws (a.at + l.count) inside c.agrees-all.ensures h.1 in
+    omega (arith, lead-past a.upper.shift a.upper.top ws l.count a.at (l.invariant h.0))

@@ -5,4 +5,4 @@ use Rattle.runs.specs.Runs.{leading}
 use Rattle.runs.proofs.eight_agree.Given as goal
 
 abbrev pub invariant-loop-count : goal.invariant-loop-count
-invariant-loop-count l = l.all ≡ true → l.count ≤ leading l.shift l.top (drop l.at (words_of l.bytes))
+invariant-loop-count l = l.all ≡ true → l.count ≤ leading l.upper.shift l.upper.top (drop l.at (words_of l.bytes))

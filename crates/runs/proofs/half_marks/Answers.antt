@@ -20,12 +20,12 @@ loop-count-preserved c =
     let inside : a.from + 29 ≤ length a.bytes.now / 4 = omega arith in
     let size : 4 * a.from + 116 - 4 * a.from ≡ 4 * 29 = omega arith in
     let word = part-listed a.bytes.now a.from 29 l.count (omega arith) inside in
-    let here : c.agrees.result ≡ agrees a.shift a.top (get_or ws (a.from + l.count) 0) =
-    c.agrees.ensures ∙ ap (agrees a.shift a.top) (rw size word) in
+    let here : c.agrees.result ≡ agrees a.upper.shift a.upper.top (get_or ws (a.from + l.count) 0) =
+    c.agrees.ensures ∙ ap (agrees a.upper.shift a.upper.top) (rw size word) in
     elim c.if-not-agrees.branch [
       | then-not-agrees w ↦
           let fits : 2 ^ l.count < 2 ^ 32 = pow-lt {j = 32} (omega arith) in
           let bit : 1 * 2 ^ l.count % 2 ^ 32 ≡ 1 * 2 ^ l.count = mod-eq_of_lt (omega arith) in
-          rw (w.marks-is, bit) (marks_off a.shift a.top ws a.from l.count l.invariant here w.if-not-agrees.true)
-      | else-not-agrees w ↦ rw w.marks-is (marks-on a.shift a.top ws a.from l.count l.invariant here w.if-not-agrees.false)
+          rw (w.marks-is, bit) (marks_off a.upper.shift a.upper.top ws a.from l.count l.invariant here w.if-not-agrees.true)
+      | else-not-agrees w ↦ rw w.marks-is (marks-on a.upper.shift a.upper.top ws a.from l.count l.invariant here w.if-not-agrees.false)
     ]

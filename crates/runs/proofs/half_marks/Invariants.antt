@@ -5,4 +5,4 @@ use Rattle.runs.specs.Runs.{marks}
 use Rattle.runs.proofs.half_marks.Given as goal
 
 abbrev pub invariant-loop-count : goal.invariant-loop-count
-invariant-loop-count l = l.marks ≡ marks l.shift l.top (words_of l.bytes) l.from l.count
+invariant-loop-count l = l.marks ≡ marks l.upper.shift l.upper.top (words_of l.bytes) l.from l.count

@@ -14,9 +14,9 @@ loop-count-preserved c =
     let a = c.args in
     let ws = words_of a.bytes.now in
     let inside : a.at + l.count < length ws = rw (words-length a.bytes.now) (omega arith) in
-    let passed = lead-past a.shift a.top ws l.count a.at in
-    let on = lead-on a.shift a.top ws (a.at + l.count) inside c.agrees.ensures in
-    let off = lead_off a.shift a.top ws (a.at + l.count) inside c.agrees.ensures in
+    let passed = lead-past a.upper.shift a.upper.top ws l.count a.at in
+    let on = lead-on a.upper.shift a.upper.top ws (a.at + l.count) inside c.agrees.ensures in
+    let off = lead_off a.upper.shift a.upper.top ws (a.at + l.count) inside c.agrees.ensures in
     elim c.if-not-agrees.branch [
       | then-not-agrees w ↦
           let fits : 2 ^ l.count < 2 ^ 32 = pow-lt {j = 32} (omega arith) in

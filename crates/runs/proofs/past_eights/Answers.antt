@@ -8,4 +8,4 @@ loop-at-preserved c =
     let l = c.loop-at in
     let a = c.args in
     let eight = c.eight_agree.ensures c.if-not-eight_agree.false in
-    (omega arith, run_past a.shift a.top (words_of a.bytes.now) 8 l.at a.stop eight (omega arith) ∙ l.invariant.1)
+    (omega arith, run_past a.upper.shift a.upper.top (words_of a.bytes.now) 8 l.at a.stop eight (omega arith) ∙ l.invariant.1)

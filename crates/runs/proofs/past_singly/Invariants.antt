@@ -5,4 +5,6 @@ use Rattle.runs.specs.Runs.{run_end}
 use Rattle.runs.proofs.past_singly.Given as goal
 
 abbrev pub invariant-loop-at : goal.invariant-loop-at
-invariant-loop-at l = run_end l.shift l.top l.stop (words_of l.bytes) l.at ≡ run_end l.shift l.top l.stop (words_of l.bytes) l.from
+invariant-loop-at l =
+    run_end l.upper.shift l.upper.top l.stop (words_of l.bytes) l.at
+    ≡ run_end l.upper.shift l.upper.top l.stop (words_of l.bytes) l.from

@@ -1,9 +1,9 @@
 -- A shift to the right divides.
 use Rattle.std.proofs.Common.{◌/◌, ◌∙◌, ◌^◌, ap, nat_eq}
 use Rattle.words.proofs.Listed.{word-listed}
-use Rattle.runs.proofs.agrees.Goals as goal
+use Rattle.runs.proofs.Upper.agrees.Goals as goal
 
 pub returns : goal.returns
 returns c =
     let a = c.args in
-    ap (λ w. nat_eq (w / 2 ^ a.shift) a.top) (c.word_at.ensures ∙ word-listed a.bytes.now a.at c.requires.0)
+    ap (λ w. nat_eq (w / 2 ^ a.self.shift) a.self.top) (c.word_at.ensures ∙ word-listed a.bytes.now a.at c.requires)
