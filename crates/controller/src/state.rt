@@ -9,7 +9,7 @@ use queue::waiting_fit;
 use stamps::{DESL, Kept};
 
 impl Controller {
-    // Every field of the waiting requests is in its range. Where none waits, the queue is not looked at.
+    // Every field of the waiting requests is in its range. Where none waits, the queue is neither looked at nor copied.
     fn requests_fit(&self, timing: Timing) -> bool
         ensures { result ≡ all_fit timing (held self.now) }
     {
@@ -18,8 +18,8 @@ impl Controller {
 
     // The clock and the events agree, no pair is open at clock 0, at most sixteen wait, each with every field in its range, and an open read or
     // write pair has its request.
-    pub(crate) fn fits(&self, timing: Timing) -> bool
-        ensures { result ≡ state_fits timing self.now }
+    pub(crate) fn fits(self, timing: Timing) -> bool
+        ensures { result ≡ state_fits timing self }
     {
         let kept = Kept {
             clock: self.clock,
