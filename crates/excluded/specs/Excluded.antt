@@ -24,7 +24,7 @@ use Rattle.consistency.specs.Consistency.{clock_fits}
 use Rattle.checker.specs.Steps.{verdict_outcome, stepped, fresh, step_of}
 use Rattle.checker.specs.declared.checker.Breach.{Breach}
 use Rattle.checker.specs.declared.checker.Checker.{Checker}
-use Rattle.limits.specs.Answers.{findingOutcome}
+use Rattle.limits.specs.Answers.{finding_outcome}
 use Rattle.duration.specs.declared.Duration.{Duration}
 use Rattle.turns.specs.OneTurn.{turn_outcome}
 use Rattle.counts.specs.Counts.{counts_of, no_counts, counting_outcome, counting_of}
@@ -210,7 +210,7 @@ pub record Answers : Type 0 where
   pub verdict : Injective verdict_outcome
   pub step : Injective stepped
   -- `check_within`
-  pub within : Injective findingOutcome
+  pub within : Injective finding_outcome
   -- `trace_duration`
   pub duration : Injective (outcome_of {A = Duration})
   -- `count_commands`, and `turn`, by which it goes

@@ -12,5 +12,5 @@ finding_of None = always
 finding_of (Some f) = breach_on f.sheet f.breach.clock f.breach.number
 
 -- the answer of `check_within`: what is found, or the number of its refusal (RULES 5.7)
-abbrev pub findingOutcome : Result (Option BreachOn) Refusal → Outcome Finding
-findingOutcome r = outcome_by finding_of r
+abbrev pub finding_outcome : Result (Option BreachOn) Refusal → Outcome Finding
+finding_outcome r = outcome_by finding_of r

@@ -5,7 +5,7 @@ ghost use Rattle.std.specs.Prelude.{◌≡◌};
 ghost use Rattle.basics.specs.Outcome.{value, given};
 ghost use Rattle.rules.specs.Verdict.{check_of};
 ghost use Rattle.limits.specs.Limits.{alike, nowhere_above, always, shown, within_of};
-ghost use Rattle.limits.specs.Answers.{findingOutcome};
+ghost use Rattle.limits.specs.Answers.{finding_outcome};
 
 use basics::Refusal;
 use checker::Breach;
@@ -42,7 +42,7 @@ fn nowhere_above(least: Config, greatest: Config) -> bool
 
 // The trace on one sheet.
 fn on_sheet(sheet: Config, words: &[u32]) -> Result<Option<BreachOn>, Refusal>
-    ensures { findingOutcome result ≡ given (check_of sheet words.now) (λ j. value (shown sheet j always)) }
+    ensures { finding_outcome result ≡ given (check_of sheet words.now) (λ j. value (shown sheet j always)) }
 {
     let breach = check(sheet, words)?;
     Ok(breach.map(|breach| BreachOn { sheet, breach }))
@@ -55,7 +55,7 @@ pub fn check_within(
     greatest: Config,
     words: &[u32],
 ) -> Result<Option<BreachOn>, Refusal>
-    ensures { findingOutcome result ≡ within_of least greatest words.now }
+    ensures { finding_outcome result ≡ within_of least greatest words.now }
 {
     least.timing()?;
     greatest.timing()?;

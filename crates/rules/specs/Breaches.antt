@@ -58,21 +58,21 @@ selected_at_exit first w = (is_powered_down first || is_exiting first) && (high 
 -- rule 6, for a read or write: first extended and last regular MRS, last but one REF; from the extended MRS word to u are 200 clocks, to
 -- k 201
 abbrev pub not_ready : ℕ → ℕ → ℕ → ℕ → Bool
-not_ready extended regular secondLast k = eqb extended 0 || eqb regular 0 || eqb secondLast 0 || ltb k (extended + 201)
+not_ready extended regular second_last k = eqb extended 0 || eqb regular 0 || eqb second_last 0 || ltb k (extended + 201)
 
 -- rule 8, by RDA and LAL and the last read and the last write
 abbrev pub too_close : Bool → Bool → Timing → ℕ → ℕ → ℕ → Bool
-too_close isRda isLal t read write k =
-    isLal && (near k read t.rbd || near k write t.rbd)
-    || not isRda && isLal && near k read (t.rwd + 1)
-    || isRda && isLal && near k write (t.wrd + 1)
+too_close is_rda is_lal t read write k =
+    is_lal && (near k read t.rbd || near k write t.rbd)
+    || not is_rda && is_lal && near k read (t.rwd + 1)
+    || is_rda && is_lal && near k write (t.wrd + 1)
 
 -- rule 11, by RDA and LAL and the last read and the last write
 abbrev pub busy : Bool → Bool → Timing → ℕ → ℕ → ℕ → Bool
-busy isRda isLal t read write k =
-    not isLal && (near k read t.rc || near k write t.rc)
-    || isRda && not isLal && near k read (t.cl + t.bl / 2 + 1)
-    || isRda && not isLal && near k write (t.wl + t.bl / 2 + 1)
+busy is_rda is_lal t read write k =
+    not is_lal && (near k read t.rc || near k write t.rc)
+    || is_rda && not is_lal && near k read (t.cl + t.bl / 2 + 1)
+    || is_rda && not is_lal && near k write (t.wl + t.bl / 2 + 1)
 
 -- rules 4 to 12
 abbrev pub closing_breach : Timing → Timestamps → ℕ → ℕ → ℕ → ℕ
