@@ -5,8 +5,9 @@ mod idle;
 mod pairs;
 mod quick;
 mod skim;
+mod trace;
 
-ghost use Rattle.std.specs.Prelude.{◌≡◌, ◌≤◌, ◌<◌, ◌/◌, length};
+ghost use Rattle.std.specs.Prelude.{◌≡◌, ◌<◌};
 ghost use Rattle.words.specs.Words.{words_of};
 ghost use Rattle.rules.specs.Verdict.{judge, check_bytes_of};
 ghost use Rattle.checker.specs.Steps.{judgement_of, verdict_outcome};
@@ -15,9 +16,9 @@ ghost use Rattle.bytecheck.specs.Passed.{next};
 use basics::{LIMIT, Refusal};
 use breaches::word_breach;
 use checker::Breach;
-use config::{Config, Timing};
-use skim::skimmed;
+use config::Config;
 use stamps::{Kept, next_met};
+use trace::Trace;
 
 // Behind a word that breaches nothing, with four banks or eight.
 fn behind(kept: Kept, four: bool, word: u32) -> Kept
@@ -31,29 +32,30 @@ fn behind(kept: Kept, four: bool, word: u32) -> Kept
     }
 }
 
-// The breach of a trace, if it has one. Words that surely breach nothing are skimmed; the others are tested by every rule.
-fn judged_bytes(timing: Timing, bytes: &[u8]) -> Option<Breach>
-    requires { length bytes.now / 4 ≤ 16777216 }
-    ensures { judgement_of result ≡ judge timing (words_of bytes.now) }
-{
-    let figures = timing.figures();
-    let mut kept = Kept::start();
-    while (kept.clock as usize) < bytes.len() / 4 {
-        kept = skimmed(timing, bytes, kept);
-        let clock = kept.clock;
-        if bytes.len() / 4 <= clock as usize {
-            break;
+impl Trace<'_> {
+    // The breach of a trace, if it has one. Words that surely breach nothing are skimmed; the others are tested by every rule.
+    fn judged(self) -> Option<Breach>
+        ensures { judgement_of result ≡ judge self.entry.timing (words_of self.entry.bytes.now) }
+    {
+        let figures = self.timing.figures();
+        let mut kept = Kept::start();
+        while (kept.clock as usize) < self.bytes.len() / 4 {
+            kept = self.skimmed(kept);
+            let clock = kept.clock;
+            if self.bytes.len() / 4 <= clock as usize {
+                break;
+            }
+            let word = self.word(clock);
+            if let Some(rule) = word_breach(self.timing, kept, word) {
+                return Some(Breach {
+                    clock,
+                    number: rule.number(),
+                });
+            }
+            kept = behind(kept, figures.four, word);
         }
-        let word = words::word_at(bytes, clock as usize);
-        if let Some(rule) = word_breach(timing, kept, word) {
-            return Some(Breach {
-                clock,
-                number: rule.number(),
-            });
-        }
-        kept = behind(kept, figures.four, word);
+        None
     }
-    None
 }
 
 // The verdict on a trace of little-endian bytes: the configuration's refusals, then 29 for bytes that are no whole words, then 24.
@@ -67,5 +69,5 @@ pub fn check_bytes(config: Config, bytes: &[u8]) -> Result<Option<Breach>, Refus
     if bytes.len() / 4 > LIMIT as usize {
         return Err(Refusal::ClockLimit);
     }
-    Ok(judged_bytes(timing, bytes))
+    Ok(Trace { timing, bytes }.judged())
 }

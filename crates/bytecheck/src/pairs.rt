@@ -7,8 +7,8 @@ ghost use Rattle.bytecheck.specs.Passed.{Passed};
 ghost use Rattle.bytecheck.specs.Pairs.{Tracked, track_at};
 
 use crate::quick::{Limits, clear};
+use crate::trace::Trace;
 use command::address::bank;
-use config::Timing;
 use runs::Upper;
 use stamps::Timestamps;
 
@@ -32,66 +32,71 @@ pub(crate) struct Track {
     pub(crate) stamps: Timestamps,
 }
 
-// Passes over reads and writes that stand one right behind the other. A loop of its own, in which nothing waits for where a gap ends.
-pub(crate) fn past_pairs(timing: Timing, bytes: &[u8], from: Track, end: u64) -> Track
-    requires { (length bytes.now / 4 ≤ 16777216) × (end ≤ length bytes.now / 4) × Tracked timing end from }
-    ensures { Tracked timing end result × Passed timing (words_of bytes.now) (track_at from) (track_at result) }
-{
-    let limits = Limits::of(timing);
-    let mut track = from;
-    while track.clock + 1 < end {
-        let closing = track.clock + 1;
-        let pair = words::pair_to(bytes, closing as usize);
-        let first = (pair % 0x100000000) as u32;
-        let bank = bank(timing.figures().four, first) as usize;
-        let kind = (first / 0x20000 % 2) as usize;
-        let allowed = track.last + limits.spacings[track.row + kind];
-        if !clear(limits, track.stamps.banks[bank], allowed, closing, pair) {
-            break;
-        }
-        track.stamps.banks[bank] = closing as u32;
-        track.accesses[kind] = closing as u32;
-        track.last = closing;
-        track.row = 2 * kind;
-        track.clock = closing + 1;
-    }
-    track
-}
-
-// Passes over reads and writes with DESL words between them, 58 words at a time. Each word that is neither DESL nor a LAL is marked by a
-// bit, and the lowest bit says where the next pair is, so the length of a gap decides no branch. Ends where there are no gaps, or no pairs.
-pub(crate) fn past_gaps(timing: Timing, bytes: &[u8], from: Track, end: u64) -> Track
-    requires { (length bytes.now / 4 ≤ 16777216) × (end ≤ length bytes.now / 4) × Tracked timing end from }
-    ensures { Tracked timing end result × Passed timing (words_of bytes.now) (track_at from) (track_at result) }
-{
-    let limits = Limits::of(timing);
-    let mut track = from;
-    while track.clock + 58 < end {
-        let stop = track.clock + 58;
-        let mut marks = runs::marks_from(bytes, track.clock as usize, DESLS);
-        if (marks == 0) | (marks == GAPLESS) {
-            break;
-        }
-        while marks != 0 {
-            let lead = marks.trailing_zeros();
-            let closing = track.clock + lead as u64 + 1;
-            let pair = words::pair_to(bytes, closing as usize);
+impl Trace<'_> {
+    // Passes over reads and writes that stand one right behind the other. A loop of its own, in which nothing waits for where a gap ends.
+    pub(crate) fn past_pairs(self, from: Track, end: u64) -> Track
+        requires { (end ≤ length self.bytes.now / 4) × Tracked self.timing end from }
+        ensures { Tracked self.entry.timing end result
+            × Passed self.entry.timing (words_of self.entry.bytes.now) (track_at from) (track_at result) }
+    {
+        let limits = Limits::of(self.timing);
+        let mut track = from;
+        while track.clock + 1 < end {
+            let closing = track.clock + 1;
+            let pair = words::pair_to(self.bytes, closing as usize);
             let first = (pair % 0x100000000) as u32;
-            let bank = bank(timing.figures().four, first) as usize;
+            let bank = bank(self.timing.figures().four, first) as usize;
             let kind = (first / 0x20000 % 2) as usize;
             let allowed = track.last + limits.spacings[track.row + kind];
             if !clear(limits, track.stamps.banks[bank], allowed, closing, pair) {
-                track.clock = closing - 1;
-                return track;
+                break;
             }
             track.stamps.banks[bank] = closing as u32;
             track.accesses[kind] = closing as u32;
             track.last = closing;
             track.row = 2 * kind;
             track.clock = closing + 1;
-            marks = marks / 4 >> lead;
         }
-        track.clock = track.clock.max(stop);
+        track
     }
-    track
+
+    // Passes over reads and writes with DESL words between them, 58 words at a time. Each word that is neither DESL nor a LAL is marked by
+    // a bit, and the lowest bit says where the next pair is, so the length of a gap decides no branch. Ends where there are no gaps, or no
+    // pairs.
+    pub(crate) fn past_gaps(self, from: Track, end: u64) -> Track
+        requires { (end ≤ length self.bytes.now / 4) × Tracked self.timing end from }
+        ensures { Tracked self.entry.timing end result
+            × Passed self.entry.timing (words_of self.entry.bytes.now) (track_at from) (track_at result) }
+    {
+        let limits = Limits::of(self.timing);
+        let mut track = from;
+        while track.clock + 58 < end {
+            let stop = track.clock + 58;
+            let mut marks = runs::marks_from(self.bytes, track.clock as usize, DESLS);
+            if (marks == 0) | (marks == GAPLESS) {
+                break;
+            }
+            while marks != 0 {
+                let lead = marks.trailing_zeros();
+                let closing = track.clock + lead as u64 + 1;
+                let pair = words::pair_to(self.bytes, closing as usize);
+                let first = (pair % 0x100000000) as u32;
+                let bank = bank(self.timing.figures().four, first) as usize;
+                let kind = (first / 0x20000 % 2) as usize;
+                let allowed = track.last + limits.spacings[track.row + kind];
+                if !clear(limits, track.stamps.banks[bank], allowed, closing, pair) {
+                    track.clock = closing - 1;
+                    return track;
+                }
+                track.stamps.banks[bank] = closing as u32;
+                track.accesses[kind] = closing as u32;
+                track.last = closing;
+                track.row = 2 * kind;
+                track.clock = closing + 1;
+                marks = marks / 4 >> lead;
+            }
+            track.clock = track.clock.max(stop);
+        }
+        track
+    }
 }

@@ -1,10 +1,11 @@
 // A quick look: what is true only of words that breach nothing, by a few comparisons. It is there for speed.
-ghost use Rattle.std.specs.Prelude.{◌≡◌, true, false, ℕ, ◌+◌, ◌≤◌, ◌<◌};
+ghost use Rattle.std.specs.Prelude.{◌≡◌, true, false, ℕ, ◌+◌, ◌/◌, ◌≤◌, ◌<◌, length};
 ghost use Rattle.early.specs.Answers.{deadline_number};
 ghost use Rattle.rules.specs.Breaches.{overdue};
 ghost use Rattle.bytecheck.specs.Quick.{SettledFrom, InTime};
 ghost use Rattle.bytecheck.specs.Pairs.{limits_of, Small, Clear, FreeFrom};
 
+use crate::trace::Trace;
 use basics::choose;
 use config::Timing;
 use early::deadline;
@@ -39,13 +40,15 @@ fn late_from(last: Option<u64>) -> u64
     }
 }
 
-// How many of so many words keep rule 3. This is the lower of `count` and a number that has nothing to do with it, so the compiler sees
-// that it is at most `count`, and no read of a word before it tests again whether the word is there.
-pub(crate) fn in_time(timing: Timing, stamps: Timestamps, count: u64) -> u64
-    ensures { (result ≤ count) × InTime timing stamps result }
-{
-    let figures = timing.figures();
-    late_from(deadline(figures.refi, stamps.refs)).min(count)
+impl Trace<'_> {
+    // How many of the words keep rule 3. This is the lower of their number and one that has nothing to do with it, so the compiler sees
+    // that it is at most their number, and no read of a word before it tests again whether the word is there.
+    pub(crate) fn in_time(self, stamps: Timestamps) -> u64
+        ensures { (result ≤ length self.entry.bytes.now / 4) × InTime self.entry.timing stamps result }
+    {
+        let figures = self.timing.figures();
+        late_from(deadline(figures.refi, stamps.refs)).min((self.bytes.len() / 4) as u64)
+    }
 }
 
 // A clock from which on no read or write breaches rule 6, 9 or 10.

@@ -4,14 +4,14 @@ use Rattle.words.specs.Words.{words_of}
 use Rattle.runs.specs.Runs.{leading}
 use Rattle.runs.proofs.Lead.{in_run}
 use Rattle.bytecheck.proofs.Passing.{quiet_on}
-use Rattle.bytecheck.proofs.idle.past_run.Goals as goal
+use Rattle.bytecheck.proofs.trace.Trace.past_run.Goals as goal
 
 pub returns : goal.returns
 returns c =
     let a = c.args in
     let shift = a.upper.shift in
     let top = a.upper.top in
-    let ws = words_of a.bytes.now in
+    let ws = words_of a.self.bytes.now in
     let n : ℕ = min (a.end - a.clock) (leading shift top (drop a.clock ws)) in
     rw c.past_run.ensures (
       omega arith,

@@ -4,7 +4,7 @@ use Rattle.command.specs.Pins.{level}
 use Rattle.words.proofs.Listed.{words-length}
 use Rattle.bytecheck.specs.Passed.{none}
 use Rattle.bytecheck.proofs.Passing.{passed_on, passed-onward, passed-inside}
-use Rattle.bytecheck.proofs.skim.skim.Goals as goal
+use Rattle.bytecheck.proofs.trace.Trace.skim.Goals as goal
 
 pub loop-tried-init : goal.loop-tried-init
 loop-tried-init c =
@@ -33,7 +33,7 @@ fewer false from after at count e h l inside = omega arith
 
 pub loop-tried-smaller : goal.loop-tried-smaller
 loop-tried-smaller c =
-    let bytes = c.args.bytes.now in
+    let bytes = c.args.self.bytes.now in
     let from = c.loop-tried.track in
     let on = passed_on c.past_gaps-track.ensures.1 c.past_pairs-track.ensures.1 in
     let by-idle = rw c.current-stamps.ensures at c.past_idle-after.ensures.1 c.loop-tried.invariant.tracked.due in

@@ -11,10 +11,10 @@ use Rattle.bytecheck.specs.declared.pairs.Track.{Track}
 use Rattle.bytecheck.specs.Passed.{none}
 use Rattle.bytecheck.proofs.Access.{Going, goes_on, goes_over, shifted}
 use Rattle.bytecheck.proofs.Turns.{Marking, lowest, after-of}
-use Rattle.bytecheck.proofs.pairs.past_gaps.Goals as goal
+use Rattle.bytecheck.proofs.trace.Trace.past_gaps.Goals as goal
 
 pub loop-track-init : goal.loop-track-init
-loop-track-init c = record { tracked = c.requires.2; passed = none }
+loop-track-init c = record { tracked = c.requires.1; passed = none }
 
 -- past the DESL words before the next pair
 over : {t : Timing} (bytes : List ℕ) {end : ℕ} {from k : Track} → Going t (words_of bytes) end from k → {stop m : ℕ}
@@ -27,21 +27,21 @@ over bytes {end} {from} {k} going {stop} {m} marking some early listed short =
 pub returns-then-not-clear : goal.returns-then-not-clear
 returns-then-not-clear c =
     let l = c.loop-marks in
-    let bytes = c.args.bytes.now in
+    let bytes = c.args.self.bytes.now in
     let lead = count_trailing_zeros 64 l.marks in
     let at : l.track.clock + lead + 1 - 1 ≡ l.track.clock + lead = omega arith in
-    let passed = over bytes l.invariant.1 l.invariant.0 c.loop-marks-test.true c.loop-track-test.true c.requires.1 c.requires.0 in
+    let passed = over bytes l.invariant.1 l.invariant.0 c.loop-marks-test.true c.loop-track-test.true c.requires.0 c.args.self.short in
     rw at (passed.tracked, passed.passed)
 
 pub loop-marks-preserved : goal.loop-marks-preserved
 loop-marks-preserved c =
     let l = c.loop-marks in
-    let bytes = c.args.bytes.now in
+    let bytes = c.args.self.bytes.now in
     let stop = c.loop-track.track.clock + 58 in
     let lead = count_trailing_zeros 64 l.marks in
     let inside = (lowest l.invariant.0 c.loop-marks-test.true).inside in
-    let short : length bytes / 4 ≤ 16777216 = c.requires.0 in
-    let fits : c.args.end ≤ length bytes / 4 = c.requires.1 in
+    let short : length bytes / 4 ≤ 16777216 = c.args.self.short in
+    let fits : c.args.end ≤ length bytes / 4 = c.requires.0 in
     let early : stop < c.args.end = c.loop-track-test.true in
     let near : l.track.clock + lead + 1 ≤ stop = omega (arith, inside) in (
       record {
@@ -59,12 +59,12 @@ loop-marks-preserved c =
 pub loop-track-preserved : goal.loop-track-preserved
 loop-track-preserved c =
     let l = c.loop-marks in
-    let bytes = c.args.bytes.now in
+    let bytes = c.args.self.bytes.now in
     let ws = words_of bytes in
     let stop = c.loop-track.track.clock + 58 in
     let marking = l.invariant.0 in
-    let short : length bytes / 4 ≤ 16777216 = c.requires.0 in
-    let fits : c.args.end ≤ length bytes / 4 = c.requires.1 in
+    let short : length bytes / 4 ≤ 16777216 = c.args.self.short in
+    let fits : c.args.end ≤ length bytes / 4 = c.requires.0 in
     let to : c.max.result ≡ l.track.clock + (stop - l.track.clock) = omega (arith, c.max.ensures) in
     let none_left : marks 18 3 ws l.track.clock (stop - l.track.clock) ≡ 0 = sym marking.marked ∙ c.loop-marks-test.false in
     rw to

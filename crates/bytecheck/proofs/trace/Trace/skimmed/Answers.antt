@@ -1,5 +1,5 @@
 use Rattle.bytecheck.specs.Passed.{none}
-use Rattle.bytecheck.proofs.skim.skimmed.Goals as goal
+use Rattle.bytecheck.proofs.trace.Trace.skimmed.Goals as goal
 
 pub returns : goal.returns
 returns c = none

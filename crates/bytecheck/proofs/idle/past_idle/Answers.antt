@@ -1,6 +1,0 @@
--- DESL words, where the word at the clock is one.
-use Rattle.bytecheck.proofs.Passing.{desl_quiet}
-use Rattle.bytecheck.proofs.idle.past_idle.Goals as goal
-
-pub returns-then-word-eq3 : goal.returns-then-word-eq3
-returns-then-word-eq3 c = (c.past_run.ensures.0, c.past_run.ensures.1 0xC0000 desl_quiet c.args.timing c.args.stamps)
