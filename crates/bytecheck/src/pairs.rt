@@ -78,8 +78,8 @@ impl Trace<'_> {
                 break;
             }
             while marks != 0 {
-                let lead = marks.trailing_zeros();
-                let closing = track.clock + lead as u64 + 1;
+                let lead = u64::from(marks.trailing_zeros());
+                let closing = track.clock + lead + 1;
                 let pair = words::pair_to(self.bytes, closing as usize);
                 let first = (pair % 0x100000000) as u32;
                 let bank = bank(self.timing.figures().four, first) as usize;

@@ -124,7 +124,7 @@ pub(crate) fn clear(limits: Limits, bank: u32, allowed: u64, closing: u64, pair:
     if pair & limits.upper == 0 {
         return false;
     }
-    if closing < bank as u64 + limits.rc {
+    if closing < u64::from(bank) + limits.rc {
         return false;
     }
     if closing < allowed {

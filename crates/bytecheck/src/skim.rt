@@ -30,7 +30,7 @@ impl Trace<'_> {
     {
         let end = self.in_time(from);
         let mut track = Track {
-            clock: start as u64,
+            clock: u64::from(start),
             last: free_from(self.timing, from),
             row: 4,
             accesses: [from.write, from.read],
@@ -40,14 +40,15 @@ impl Trace<'_> {
         loop {
             let stamps = current(track);
             let after = self.past_idle(stamps, track.clock as u32, end);
-            if tried & (after as u64 == track.clock) {
+            let clock = u64::from(after);
+            if tried & (clock == track.clock) {
                 return Kept {
                     clock: after,
                     met: DESL,
                     stamps,
                 };
             }
-            track.clock = after as u64;
+            track.clock = clock;
             track = self.past_gaps(track, end);
             track = self.past_pairs(track, end);
             tried = true;

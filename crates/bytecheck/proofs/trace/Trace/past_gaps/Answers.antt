@@ -19,18 +19,19 @@ loop-track-init c = record { tracked = c.requires.1; passed = none }
 -- past the DESL words before the next pair
 over : {t : Timing} (bytes : List ℕ) {end : ℕ} {from k : Track} → Going t (words_of bytes) end from k → {stop m : ℕ}
     → Marking (words_of bytes) stop k.clock m → (m ≡ 0 → ⊥) → stop < end → end ≤ length bytes / 4 → length bytes / 4 ≤ 16777216
-    → Going t (words_of bytes) end from (shifted k (k.clock + count_trailing_zeros 64 m))
-over bytes {end} {from} {k} going {stop} {m} marking some early listed short =
+    → {lead : ℕ} → lead ≡ count_trailing_zeros 64 m → Going t (words_of bytes) end from (shifted k (k.clock + lead))
+over bytes {end} {from} {k} going {stop} {m} marking some early listed short is =
     let low = lowest marking some in
-    goes_over going (count_trailing_zeros 64 m) (omega (arith, low.inside)) (rw (words-length bytes) listed) (omega arith) low.before
+    rw is
+    (goes_over going (count_trailing_zeros 64 m) (omega (arith, low.inside)) (rw (words-length bytes) listed) (omega arith) low.before)
 
 pub returns-then-not-clear : goal.returns-then-not-clear
 returns-then-not-clear c =
     let l = c.loop-marks in
     let bytes = c.args.self.bytes.now in
-    let lead = count_trailing_zeros 64 l.marks in
+    let lead = c.from-lead.result in
     let at : l.track.clock + lead + 1 - 1 ≡ l.track.clock + lead = omega arith in
-    let passed = over bytes l.invariant.1 l.invariant.0 c.loop-marks-test.true c.loop-track-test.true c.requires.0 c.args.self.short in
+    let passed = over bytes l.invariant.1 l.invariant.0 c.loop-marks-test.true c.loop-track-test.true c.requires.0 c.args.self.short c.from-lead.ensures in
     rw at (passed.tracked, passed.passed)
 
 pub loop-marks-preserved : goal.loop-marks-preserved
@@ -38,8 +39,9 @@ loop-marks-preserved c =
     let l = c.loop-marks in
     let bytes = c.args.self.bytes.now in
     let stop = c.loop-track.track.clock + 58 in
-    let lead = count_trailing_zeros 64 l.marks in
-    let inside = (lowest l.invariant.0 c.loop-marks-test.true).inside in
+    let lead = c.from-lead.result in
+    let is : lead ≡ count_trailing_zeros 64 l.marks = c.from-lead.ensures in
+    let inside : lead < stop - l.track.clock = rw is (lowest l.invariant.0 c.loop-marks-test.true).inside in
     let short : length bytes / 4 ≤ 16777216 = c.args.self.short in
     let fits : c.args.end ≤ length bytes / 4 = c.requires.0 in
     let early : stop < c.args.end = c.loop-track-test.true in
@@ -49,7 +51,7 @@ loop-marks-preserved c =
         since = omega (arith, l.invariant.0.since);
         marked = after-of (words_of bytes) l.track.clock stop lead l.marks l.invariant.0.marked;
       },
-      goes_on (over bytes l.invariant.1 l.invariant.0 c.loop-marks-test.true early fits short) (omega (arith, near))
+      goes_on (over bytes l.invariant.1 l.invariant.0 c.loop-marks-test.true early fits short is) (omega (arith, near))
           (rw (words-length bytes) fits) (omega arith) c.pair_to-pair.result
           (pair-listed bytes (l.track.clock + lead) c.pair_to-pair.ensures (omega (arith, near)))
           (c.bank-bank.ensures.0 ∙ ap (λ (f : Figures). bank_of f.four (c.pair_to-pair.result % 2 ^ 32)) c.figures.ensures)

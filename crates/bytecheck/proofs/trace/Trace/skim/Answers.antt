@@ -36,13 +36,13 @@ loop-tried-smaller c =
     let bytes = c.args.self.bytes.now in
     let from = c.loop-tried.track in
     let on = passed_on c.past_gaps-track.ensures.1 c.past_pairs-track.ensures.1 in
-    let by-idle = rw c.current-stamps.ensures at c.past_idle-after.ensures.1 c.loop-tried.invariant.tracked.due in
-    fewer c.loop-tried.tried from.clock c.past_idle-after.result c.past_pairs-track.result.clock (length bytes / 4)
-    c.if-tried-after.false c.past_idle-after.ensures.0 (passed-onward on)
+    let by-idle = rw (c.current-stamps.ensures, ← c.from-clock.ensures) at c.past_idle-after.ensures.1 c.loop-tried.invariant.tracked.due in
+    fewer c.loop-tried.tried from.clock c.from-clock.result c.past_pairs-track.result.clock (length bytes / 4)
+    c.if-tried-clock.false (rw c.from-clock.ensures c.past_idle-after.ensures.0) (passed-onward on)
     (λ h. rw (words-length bytes) at (passed-inside (passed_on by-idle on) h))
 
 pub loop-tried-preserved : goal.loop-tried-preserved
 loop-tried-preserved c =
     let on = passed_on c.past_gaps-track.ensures.1 c.past_pairs-track.ensures.1 in
-    let by-idle = rw c.current-stamps.ensures at c.past_idle-after.ensures.1 c.loop-tried.invariant.tracked.due in
+    let by-idle = rw (c.current-stamps.ensures, ← c.from-clock.ensures) at c.past_idle-after.ensures.1 c.loop-tried.invariant.tracked.due in
     record { tracked = c.past_pairs-track.ensures.0; passed = passed_on c.loop-tried.invariant.passed (passed_on by-idle on) }
