@@ -1,4 +1,3 @@
 -- What runs are, by the word and by any number of words.
 pub mod Lead
-pub mod Marks
 pub mod Marked

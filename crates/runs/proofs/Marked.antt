@@ -1,6 +1,6 @@
 -- The marks of words: by one word more at either end, of two parts, and what the lowest of them says.
-use Prim.Native.Nat.{ℕ, zero, suc, ◌+◌, ◌-◌, ◌*◌, ◌/◌, ◌%◌, ◌^◌, ◌≤◌, ◌<◌}
-use mathlib.Core.Path.{◌≡◌, refl, ◌∙◌}
+use Prim.Native.Nat.{ℕ, zero, suc, ◌+◌, ◌-◌, ◌*◌, ◌/◌, ◌%◌, ◌^◌, ◌≤◌, ◌<◌, min}
+use mathlib.Core.Path.{◌≡◌, refl, ◌∙◌, ap, ap₂}
 use mathlib.Core.Bool.{Bool, true, false, cond}
 use mathlib.Core.List.{List}
 use native.Mathlib.Omega.{arith}
@@ -12,6 +12,21 @@ use lib.Pow.{pow-add, shr_le}
 use lib.Bits.{bit_or, or_shifted_r}
 use lib.Count.{count_trailing_zeros, under}
 use Rattle.runs.specs.Runs.{agrees, marks, marks_from}
+use Rattle.runs.proofs.Lead.{lead, lead-on, lead_off}
+
+-- the zeros below the lowest bit, of a number of more than one
+even : (d x : ℕ) → count_trailing_zeros (suc d) (2 * x) ≡ suc (count_trailing_zeros d x)
+unfolding count_trailing_zeros
+even d x =
+    let low : 2 * x % 2 ≡ 0 = omega arith in
+    let high : 2 * x / 2 ≡ x = omega arith in
+    rw (low, high)
+
+odd : (d x : ℕ) → count_trailing_zeros (suc d) (1 + 2 * x) ≡ 0
+unfolding count_trailing_zeros
+odd d x =
+    let low : (1 + 2 * x) % 2 ≡ 1 = omega arith in
+    rw low
 
 module _ (shift top : ℕ) (ws : List ℕ) where
   -- the mark of a word
@@ -138,3 +153,34 @@ module _ (shift top : ℕ) (ws : List ℕ) where
               let place : from + suc i ≡ from + 1 + i = omega arith in
               rw place (rest.before i (omega arith))
       by (suc b) e on = rw (lowest, e) (record { inside = omega arith; before = λ i less. absurd (omega arith) })
+
+  -- how many lead of words that are all there, with a bit set above theirs
+  pub marks_lead : (d from n : ℕ) → from + n ≤ length ws
+      → count_trailing_zeros (n + suc d) (marks shift top ws from n + 2 ^ n) ≡ min n (lead shift top ws from)
+  unfolding marks count_trailing_zeros
+  marks_lead d from zero h =
+      let digits : 0 + suc d ≡ suc d = omega arith in
+      rw digits (omega arith)
+  marks_lead d from (suc n) h = by (agrees shift top (get_or ws from 0)) refl (marks_lead d (from + 1) n (omega arith))
+    where
+      inside : from < length ws
+      inside = omega arith
+
+      digits : suc n + suc d ≡ suc (n + suc d)
+      digits = omega arith
+
+      by : (b : Bool) → agrees shift top (get_or ws from 0) ≡ b
+          → count_trailing_zeros (n + suc d) (marks shift top ws (from + 1) n + 2 ^ n) ≡ min n (lead shift top ws (from + 1))
+          → count_trailing_zeros (suc n + suc d) (marks shift top ws from (suc n) + 2 ^ suc n) ≡ min (suc n) (lead shift top ws from)
+      by true e rest =
+          let none : mark from ≡ 0 = ap (λ (b : Bool). cond {A = ℕ} b 0 1) e in
+          let sum : marks shift top ws from (suc n) + 2 ^ suc n ≡ 2 * (marks shift top ws (from + 1) n + 2 ^ n) =
+          omega (arith, marks-low from n, none, pow-suc 2 n) in
+          ap₂ count_trailing_zeros digits sum ∙ even (n + suc d) (marks shift top ws (from + 1) n + 2 ^ n)
+          ∙ omega (arith, rest, lead-on shift top ws from inside refl e)
+      by false e rest =
+          let one : mark from ≡ 1 = ap (λ (b : Bool). cond {A = ℕ} b 0 1) e in
+          let sum : marks shift top ws from (suc n) + 2 ^ suc n ≡ 1 + 2 * (marks shift top ws (from + 1) n + 2 ^ n) =
+          omega (arith, marks-low from n, one, pow-suc 2 n) in
+          ap₂ count_trailing_zeros digits sum ∙ odd (n + suc d) (marks shift top ws (from + 1) n + 2 ^ n)
+          ∙ omega (arith, lead_off shift top ws from inside refl e)

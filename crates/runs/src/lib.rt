@@ -1,6 +1,6 @@
 // Runs: words one behind the other that agree in their upper bits. The forms are chosen for speed. A word is tested by one shift and one
-// comparison, with numbers that no loop changes. The loops over eight and over sixteen words have no branch that goes by a word and a
-// fixed number of turns, and the functions that hold them are called from one place each: so the compiler unrolls them there and tests
+// comparison, with numbers that no loop changes. The loops over eight, sixteen and 29 words have no branch that goes by a word and a fixed
+// number of turns, and the functions that hold them are called by one function each: so the compiler unrolls them there and tests
 // neighbouring words at once.
 #![tactic(auto)]
 
@@ -46,25 +46,36 @@ fn eight_agree(bytes: &[u8], at: usize, upper: Upper) -> bool
     all
 }
 
+// A bit for each of the `N` words from an index on that does not agree, the lowest for the first word. The words are those of a part whose
+// length is known where this is called, so the compiler sees that each is there, and tests four at once.
+fn marks_at<const N: usize>(bytes: &[u8], at: usize, upper: Upper) -> u32
+    requires { (at + N ≤ length bytes.now / 4) × (N ≤ 32) }
+    ensures { result ≡ marks upper.shift upper.top (words_of bytes.now) at N }
+{
+    let start = 4 * at;
+    let part = &bytes[start..start + 4 * N];
+    let mut marks: u32 = 0;
+    for count in 0..N {
+        if !upper.agrees(part, count) {
+            marks |= 1 << count;
+        }
+    }
+    marks
+}
+
 // How many of the sixteen words from an index on come before the first that does not agree. How long a run is cannot be foreseen, so a
 // branch at each word would often go wrong.
 fn leading(bytes: &[u8], at: usize, upper: Upper) -> usize
     requires { at + 16 ≤ length bytes.now / 4 }
     ensures { result ≡ min 16 (leading upper.shift upper.top (drop at (words_of bytes.now))) }
 {
-    // A bit for each word that does not agree, the lowest for the first word.
-    let mut marks: u32 = 0;
-    for count in 0..16 {
-        if !upper.agrees(bytes, at + count) {
-            marks |= 1 << count;
-        }
-    }
+    let marks = marks_at::<16>(bytes, at, upper);
     (marks | 0x10000).trailing_zeros() as usize
 }
 
 // Where a run ends, by one word a turn.
 fn past_singly(bytes: &[u8], from: usize, stop: usize, upper: Upper) -> usize
-    requires { (stop ≤ length bytes.now / 4) × (from ≤ stop) }
+    requires { stop ≤ length bytes.now / 4 }
     ensures { result ≡ run_end upper.shift upper.top stop (words_of bytes.now) from }
 {
     for at in from..stop {
@@ -72,7 +83,7 @@ fn past_singly(bytes: &[u8], from: usize, stop: usize, upper: Upper) -> usize
             return at;
         }
     }
-    stop
+    stop.max(from)
 }
 
 // An index from which the run ends where it does from the first, by eight words a turn.
@@ -111,27 +122,10 @@ pub fn past_run(bytes: &[u8], from: usize, end: usize, upper: Upper) -> usize
     past_singly(bytes, at, stop, upper)
 }
 
-// A bit for each of the 29 words from an index on that does not agree, the lowest for the first word. The words are those of a part whose
-// length is known, so the compiler sees that each is there, and tests four at once. The first, whose bit is 1, it tests by itself: hence
-// one word more than seven times four.
-fn half_marks(bytes: &[u8], from: usize, upper: Upper) -> u32
-    requires { from + 29 ≤ length bytes.now / 4 }
-    ensures { result ≡ marks upper.shift upper.top (words_of bytes.now) from 29 }
-{
-    let start = 4 * from;
-    let part = &bytes[start..start + 116];
-    let mut marks: u32 = 0;
-    for count in 0..29 {
-        if !upper.agrees(part, count) {
-            marks |= 1 << count;
-        }
-    }
-    marks
-}
-
 // A bit for each of the 58 words from an index on that does not agree, where the bytes hold them all, and otherwise 0. Both halves are
 // asked for 0 before they are put together: else the compiler makes numbers of 64 bits of all bits, and tests two words at once. With
-// `u64::from` for `as` it tests fewer at once, too.
+// `u64::from` for `as` it tests fewer at once, too. The first of a half, whose bit is 1, it tests by itself: hence 29 words, one more than
+// seven times four.
 pub fn marks_from(bytes: &[u8], from: usize, upper: Upper) -> u64
     ensures { result ≡ marks_from upper.shift upper.top (words_of bytes.now) from }
 {
@@ -139,8 +133,8 @@ pub fn marks_from(bytes: &[u8], from: usize, upper: Upper) -> u64
     if count < 58 || count - 58 < from {
         return 0;
     }
-    let low = half_marks(bytes, from, upper);
-    let high = half_marks(bytes, from + 29, upper);
+    let low = marks_at::<29>(bytes, from, upper);
+    let high = marks_at::<29>(bytes, from + 29, upper);
     if low == 0 && high == 0 {
         return 0;
     }

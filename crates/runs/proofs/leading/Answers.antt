@@ -1,34 +1,16 @@
-use Rattle.std.proofs.Common.{◌≡◌, ◌+◌, ◌*◌, ◌%◌, ◌^◌, ◌<◌, arith, length}
-use native.Mathlib.Nat.{lt_of_not-le, mod-eq_of_lt}
-use lib.Pow.{pow-lt}
+-- A bit set above the marks keeps their zeros, and ends them.
+use Rattle.std.proofs.Common.{◌≡◌, ◌+◌, ◌*◌, ◌^◌, ◌∙◌, arith}
+use lib.Bits.{bit_or, or_shifted_r}
 use Rattle.words.specs.Words.{words_of}
 use Rattle.words.proofs.Listed.{words-length}
-use Rattle.runs.proofs.Lead.{lead-on, lead_off, lead-past}
-use Rattle.runs.proofs.Marks.{marked, unmarked, sixteen}
+use Rattle.runs.proofs.Marked.{marks_lt, marks_lead}
 use Rattle.runs.proofs.leading.Goals as goal
-use Rattle.runs.proofs.leading.Goals.{then-not-agrees, else-not-agrees}
-
-pub loop-count-preserved : goal.loop-count-preserved
-loop-count-preserved c =
-    let l = c.loop-count in
-    let a = c.args in
-    let ws = words_of a.bytes.now in
-    let inside : a.at + l.count < length ws = rw (words-length a.bytes.now) (omega arith) in
-    let passed = lead-past a.upper.shift a.upper.top ws l.count a.at in
-    let on = lead-on a.upper.shift a.upper.top ws (a.at + l.count) inside c.agrees.ensures in
-    let off = lead_off a.upper.shift a.upper.top ws (a.at + l.count) inside c.agrees.ensures in
-    elim c.if-not-agrees.branch [
-      | then-not-agrees w ↦
-          let fits : 2 ^ l.count < 2 ^ 32 = pow-lt {j = 32} (omega arith) in
-          let bit : 1 * 2 ^ l.count % 2 ^ 32 ≡ 1 * 2 ^ l.count = mod-eq_of_lt (omega arith) in
-          rw (w.marks-is, bit)
-          (marked l.invariant (lt_of_not-le (λ h. omega (arith, passed (omega arith), off w.if-not-agrees.true))))
-      | else-not-agrees w ↦
-          rw w.marks-is (unmarked l.invariant (λ e. omega (arith, passed (omega arith), on w.if-not-agrees.false)))
-    ]
 
 pub returns : goal.returns
 returns c =
-    let l = c.loop-count in
-    let all : l.count ≡ 16 = omega arith in
-    sixteen (rw all at l.invariant)
+    let a = c.args in
+    let ws = words_of a.bytes.now in
+    let m = c.marks_at-marks.result in
+    let small = marks_lt a.upper.shift a.upper.top ws a.at 16 in
+    let sum : bit_or m (1 * 2 ^ 16) ≡ m + 1 * 2 ^ 16 = or_shifted_r 1 16 m (rw c.marks_at-marks.ensures small) ∙ omega arith in
+    rw (sum, c.marks_at-marks.ensures) (marks_lead a.upper.shift a.upper.top ws 15 a.at 16 (rw (words-length a.bytes.now) (omega arith)))

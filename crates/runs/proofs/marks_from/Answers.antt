@@ -27,12 +27,12 @@ returns-then-high-eq0 c =
     let a = c.args in
     omega (
       arith,
-      joined a.upper.shift a.upper.top a.bytes.now a.from c.half_marks-low.result c.half_marks-high.result (omega arith)
-          c.half_marks-low.ensures c.half_marks-high.ensures,
+      joined a.upper.shift a.upper.top a.bytes.now a.from c.marks_at-low.result c.marks_at-high.result (omega arith)
+          c.marks_at-low.ensures c.marks_at-high.ensures,
     )
 
 pub returns : goal.returns
 returns c =
     let a = c.args in
-    joined a.upper.shift a.upper.top a.bytes.now a.from c.half_marks-low.result c.half_marks-high.result (omega arith)
-    c.half_marks-low.ensures c.half_marks-high.ensures
+    joined a.upper.shift a.upper.top a.bytes.now a.from c.marks_at-low.result c.marks_at-high.result (omega arith)
+    c.marks_at-low.ensures c.marks_at-high.ensures
