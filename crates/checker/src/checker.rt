@@ -5,7 +5,7 @@ ghost use Rattle.checker.specs.Steps.{fresh, stepped, tried, judged, step_of};
 use basics::{LIMIT, Refusal};
 use breaches::word_breach;
 use config::{Config, Timing};
-use consistency::past_fits;
+use consistency::clock_fits;
 use stamps::{Kept, Timestamps, next_met};
 
 // The clock and the number of a breach; number 0 where there is none.
@@ -96,7 +96,7 @@ impl Checker {
         ensures { tried self result ≡ step_of self word }
     {
         let timing = self.config.timing()?;
-        if !past_fits(self.kept()) {
+        if !clock_fits(self.kept()) {
             return Err(Refusal::State);
         }
         if self.breach.number != 0 {

@@ -1,4 +1,4 @@
-// The weight of each pin in a word: a pin is high where the word's quotient by it is odd. And the leaves that drive pins.
+// The weight of each pin in a word: a pin is high where the word's quotient by it is odd. And the numbers that drive pins.
 ghost use Rattle.std.specs.Prelude.{◌≡◌, cond, ◌≤◌};
 ghost use Rattle.command.specs.Pins.{level, high_by};
 

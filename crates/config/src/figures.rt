@@ -4,7 +4,7 @@ ghost use Rattle.config.specs.Configuration.{figures_of};
 
 use crate::Timing;
 
-// The figures that a timing holds, under the same names.
+// The figures that a timing holds, under the same names. A timing's own fields are private, so that nothing but `Config::timing` makes one.
 #[derive(Clone, Copy)]
 pub struct Figures {
     pub cl: u32,

@@ -44,13 +44,17 @@ fn stamps_before(kept: Kept) -> bool
 fn words_before(first: u32) -> u32
     ensures { result ≡ words_before first }
 {
-    let exiting = choose(is_exiting(first), 2, 0);
-    let idle = choose(is_powered_down(first), 1, exiting);
-    choose(!high(first, CS), 1, idle)
+    if !high(first, CS) || is_powered_down(first) {
+        1
+    } else if is_exiting(first) {
+        2
+    } else {
+        0
+    }
 }
 
 // The clock is within its limit, and nothing that is remembered contradicts it (otherwise 19).
-pub fn past_fits(kept: Kept) -> bool
+pub fn clock_fits(kept: Kept) -> bool
     ensures { result ≡ clock_fits kept.clock kept.met kept.stamps }
 {
     kept.clock <= LIMIT && stamps_before(kept) && words_before(kept.met) <= kept.clock

@@ -23,7 +23,7 @@ fn passes(timing: Timing, stamps: Timestamps, clock: u32, pair: Pair) -> bool
     let between = Kept {
         clock: clock + 1,
         met: pair.first,
-        stamps,
+        ..kept
     };
     let first = word_breach(timing, kept, pair.first);
     let second = word_breach(timing, between, pair.second);

@@ -16,8 +16,8 @@ impl Controller {
         self.count == 0 || waiting_fit(timing, self.waiting, self.count)
     }
 
-    // The clock and the events agree, no pair is open at clock 0, at most sixteen wait, each with every field in its range, and an open read or
-    // write pair has its request.
+    // The clock and the events agree, no pair is open at clock 0, at most sixteen wait, each with every field in its range, and an open
+    // read or write pair has its request.
     pub(crate) fn fits(self, timing: Timing) -> bool
         ensures { result ≡ state_fits timing self }
     {
@@ -26,7 +26,7 @@ impl Controller {
             met: DESL,
             stamps: self.stamps,
         };
-        consistency::past_fits(kept)
+        consistency::clock_fits(kept)
             & !((self.clock == 0) & self.opened.is_open())
             & (self.count <= Controller::CAPACITY)
             & self.requests_fit(timing)

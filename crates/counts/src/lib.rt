@@ -70,7 +70,8 @@ impl CommandCounts {
         }
     }
 
-    // The counts with one more single word: DESL, or one with PD low. One that opens a pair, which the trace does not close, is not counted.
+    // The counts with one more single word: DESL, or one with PD low. One that opens a pair, which the trace does not close, is not
+    // counted.
     fn with_single(self, word: u32) -> CommandCounts
         requires { Below 65536 self }
         ensures { result ≡ with_single self word }

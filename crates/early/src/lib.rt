@@ -38,14 +38,11 @@ pub fn deadline(refi: u32, refs: [u32; 8]) -> Option<u64>
     None
 }
 
-// The lowest of rules 1 to 3 that a word breaches. `low` says whether it breaches rule 2, and `last` is the last clock that rule 3 allows,
-// if it does not allow any.
+// The lowest of rules 1 to 3 that a word breaches. `low` says whether it breaches rule 2, and `last` is the last clock that rule 3 allows:
+// none, or 0, where it allows every clock.
 pub fn early_breach(low: bool, last: Option<u64>, clock: u32, word: u32) -> Option<Rule>
     ensures { breach_number result ≡ early_breach low (deadline_number last) clock word }
 {
-    let overdue = match last {
-        Some(last) => (last != 0) & (last < u64::from(clock)),
-        None => false,
-    };
+    let overdue = last.is_some_and(|last| last != 0 && last < u64::from(clock));
     lowest_early(0x100000 <= word, low, overdue)
 }

@@ -38,7 +38,6 @@ use Rattle.turns.specs.declared.TurnWords.{TurnWords}
 use Rattle.counts.specs.Counts.{counting_outcome}
 use Rattle.counts.specs.declared.CommandCounts.{CommandCounts}
 use Rattle.counts.specs.declared.Uncounted.{Uncounted}
-use Rattle.controller.specs.Steps.{call_outcome}
 use Rattle.walks.specs.Walk.{Reached, passed, breached, ended, reached_of, progress_outcome}
 use Rattle.walks.specs.declared.Progress.{Progress}
 use Rattle.early.specs.Answers.{breach_number}

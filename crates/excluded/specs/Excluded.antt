@@ -10,7 +10,7 @@ use Rattle.config.specs.declared.Config.{Config}
 use Rattle.config.specs.declared.Timing.{Timing}
 use Rattle.basics.specs.declared.refusal.Refusal.{Refusal}
 use Rattle.basics.specs.declared.refusal.Refusal.TheVariants.{ClockLimit, Field, QueueFull}
-use Rattle.early.specs.Answers.{rule_number, breach_number}
+use Rattle.early.specs.Answers.{breach_number}
 use Rattle.reading.specs.declared.Decoded.{Decoded}
 use Rattle.command.specs.declared.operation.Pair.{Pair}
 use Rattle.writing.specs.Writing.{request_fits}

@@ -1,5 +1,4 @@
-// A pair of words is read to the operation that it stands for, and to the clocks of its data. Where a test picks the case, the leaf takes
-// the test's result.
+// A pair of words is read to the operation that it stands for, and to the clocks of its data.
 #![tactic(auto)]
 
 ghost use Rattle.std.specs.Prelude.{◌≡◌, cond};

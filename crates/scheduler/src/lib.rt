@@ -8,7 +8,7 @@ use command::{Operation, Pair, Request};
 use config::Timing;
 use stamps::{DESL, Timestamps};
 
-// What the open pair stands for; its closing word is the next.
+// What the open pair stands for, in the order of RULES 8.3, or that none is open; its closing word is the next.
 #[derive(Clone, Copy)]
 pub enum OpenPair {
     Nothing,

@@ -160,8 +160,15 @@ pub fn is_exiting(first: u32) -> bool
 pub fn next_met(first: u32, word: u32) -> u32
     ensures { result ≡ next_met first word }
 {
-    let after_desl = choose(is_powered_down(first), EXITING, DESL);
-    let driven = choose(!high(word, CS), word, after_desl);
-    let next = choose(high(word, PD), driven, POWERED_DOWN);
-    choose(!high(first, CS), DESL, next)
+    if !high(first, CS) {
+        DESL
+    } else if !high(word, PD) {
+        POWERED_DOWN
+    } else if !high(word, CS) {
+        word
+    } else if is_powered_down(first) {
+        EXITING
+    } else {
+        DESL
+    }
 }

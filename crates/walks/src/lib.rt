@@ -7,7 +7,7 @@ ghost use Rattle.walks.specs.Walk.{progress_outcome, of_word, at_end, MovePromis
 
 use basics::Refusal;
 use checker::{Breach, Checker, Stepped};
-use consistency::past_fits;
+use consistency::clock_fits;
 
 // What an advance that is not refused reaches.
 #[derive(Clone, Copy, Debug, PartialEq, Eq)]
@@ -37,7 +37,7 @@ fn at_end(checker: Checker) -> Result<Progress, Refusal>
     ensures { progress_outcome result ≡ at_end checker }
 {
     checker.config.timing()?;
-    if !past_fits(checker.kept()) {
+    if !clock_fits(checker.kept()) {
         return Err(Refusal::State);
     }
     Ok(Progress::End)

@@ -1,4 +1,4 @@
-// The whole check of a trace: one pass, and nothing tested inside it that the door has tested.
+// The whole check of a trace: one pass, and the configuration and the length are tested once, before it.
 #![tactic(auto)]
 
 ghost use Rattle.std.specs.Prelude.{◌≡◌, ◌≤◌, length};
