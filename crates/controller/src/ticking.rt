@@ -34,6 +34,7 @@ impl Controller {
         ensures { ticked result ≡ closing timing self }
     {
         let place = self.opened.place();
+        // Where the pair is no request's, its words go by none.
         let request = request_at(self.waiting, place.unwrap_or(0));
         let words = self.opened.words(timing, request);
         let stamps = self

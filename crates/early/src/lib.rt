@@ -3,7 +3,7 @@
 
 mod rule;
 
-ghost use Rattle.std.specs.Prelude.{◌≡◌, [], ◌∷◌};
+ghost use Rattle.std.specs.Prelude.{◌≡◌, ◌<◌, IfSome, [], ◌∷◌};
 ghost use Rattle.rules.specs.Rules.{lowest};
 ghost use Rattle.rules.specs.Breaches.{deadline, early_breach};
 ghost use Rattle.early.specs.Answers.{breach_number, deadline_number};
@@ -28,7 +28,7 @@ fn lowest_early(stray: bool, low: bool, overdue: bool) -> Option<Rule>
 // The last clock that rule 3 allows, by D and the last eight REF words, newest first: if m is the highest place that is not 0, m × D after
 // the REF word there. None where all are 0, and any clock is allowed.
 pub fn deadline(refi: u32, refs: [u32; 8]) -> Option<u64>
-    ensures { deadline_number result ≡ deadline refi refs }
+    ensures { (deadline_number result ≡ deadline refi refs) × IfSome result (λ last. 0 < last) }
 {
     for i in (0..8).rev() {
         if refs[i] != 0 {

@@ -7,6 +7,11 @@ abbrev pub count_of : Result ℕ ReadFailed → ℕ
 count_of (Ok count) = count
 count_of (Err e) = e.count
 
+-- what a read that gave this comes to, behind so many bytes: the bytes that came, none at the end, or that it failed
+abbrev pub came : {E : Type 0} → ℕ → Result ℕ E → Result ℕ ReadFailed
+came count (Ok more) = Ok more
+came count (Err e) = Err (record { count = count })
+
 -- `&xs[..n]` is in bounds and has n bytes
 abbrev pub IsPrefixLen : ℕ → List ℕ → Type 0
 IsPrefixLen n xs = (n ≤ length xs) × (n ≡ length (take n xs))

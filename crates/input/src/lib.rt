@@ -1,12 +1,12 @@
 // Standard input, read to its end.
 #![tactic(auto)]
 
-ghost use Rattle.std.specs.Prelude.{is_err};
-ghost use Rattle.input.specs.Reading.{count_of, ReadPromised};
+ghost use Rattle.std.specs.Prelude.{◌≡◌, is_err};
+ghost use Rattle.input.specs.Reading.{count_of, came, ReadPromised};
 
 use std::error::Error;
 use std::fmt;
-use std::io::{Read, Stdin};
+use std::io::{self, Read, Stdin};
 
 // A read failed behind so many bytes: they are not the whole input.
 #[derive(Clone, Copy, Debug, PartialEq, Eq)]
@@ -22,17 +22,24 @@ impl fmt::Display for ReadFailed {
 
 impl Error for ReadFailed {}
 
+// How many bytes came, behind so many, or that the read failed.
+fn came(count: usize, answer: io::Result<usize>) -> Result<usize, ReadFailed>
+    ensures { result ≡ came count answer }
+{
+    answer.map_err(|_| ReadFailed { count })
+}
+
 // Reads until the buffer is full, the input ends or a read fails; how many bytes were read.
 pub fn read(mut stdin: Stdin, buffer: &mut [u8]) -> Result<usize, ReadFailed>
     ensures { ReadPromised (count_of result) (is_err result) buffer.new }
 {
     let mut count = 0;
     while count < buffer.len() {
-        match stdin.read(&mut buffer[count..]) {
-            Ok(0) => break,
-            Ok(more) => count += more,
-            Err(_) => return Err(ReadFailed { count }),
+        let more = came(count, stdin.read(&mut buffer[count..]))?;
+        if more == 0 {
+            break;
         }
+        count += more;
     }
     Ok(count)
 }

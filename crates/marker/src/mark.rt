@@ -17,14 +17,14 @@ fn accepted(count: u32) -> Line
     Line::empty().piece(b"accepted ").number(count).push(b'\n')
 }
 
-fn in_breach(breach: Breach) -> Line
-    ensures { (text result ≡ line_by 0 (value (breach breach.clock breach.number))) × (result.len ≤ 40) }
+fn in_breach(clock: u32, number: u32) -> Line
+    ensures { (text result ≡ line_by 0 (value (breach clock number))) × (result.len ≤ 40) }
 {
     Line::empty()
         .piece(b"breach ")
-        .number(breach.clock)
+        .number(clock)
         .push(b' ')
-        .number(breach.number)
+        .number(number)
         .push(b'\n')
 }
 
@@ -40,7 +40,7 @@ fn line_by(count: u32, verdict: Result<Option<Breach>, Refusal>) -> Line
 {
     match verdict {
         Ok(None) => accepted(count),
-        Ok(Some(breach)) => in_breach(breach),
+        Ok(Some(breach)) => in_breach(breach.clock, breach.number),
         Err(why) => refused(why.number()),
     }
 }

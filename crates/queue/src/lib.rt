@@ -58,12 +58,18 @@ fn closed_up(mut waiting: [Request; 16], count: u32, place: u32) -> [Request; 16
 pub fn requests_left(waiting: [Request; 16], count: u32, place: Option<u32>) -> [Request; 16]
     ensures { result ≡ option_map_or (λ p. closed_up vacant p count waiting) place waiting }
 {
-    place.map_or(waiting, |place| closed_up(waiting, count, place))
+    match place {
+        Some(place) => closed_up(waiting, count, place),
+        None => waiting,
+    }
 }
 
 // How many wait, once one has left or none has; 0 stays 0.
 pub fn count_left(count: u32, place: Option<u32>) -> u32
     ensures { result ≡ option_map_or (λ p. count - 1) place count }
 {
-    place.map_or(count, |_| count.saturating_sub(1))
+    match place {
+        Some(_) => count.saturating_sub(1),
+        None => count,
+    }
 }

@@ -1,14 +1,8 @@
 -- A run over what is kept gives the verdict, from the first word on; a word that breaches a rule ends it.
-use Rattle.std.proofs.Common.{◌≡◌, refl, sym, ap, ◌∙◌, get_or, arith}
-use Rattle.std.proofs.lemmas.Grind.{common_steps}
-use Rattle.early.specs.declared.rule.Rule.{Rule}
-use Rattle.early.specs.Answers.{rule_number}
+use Rattle.std.proofs.Common.{refl, sym, ap, ◌∙◌, get_or, arith}
+use Rattle.early.proofs.Numbered.{numbered}
 use Rattle.rules.proofs.Words.{run_is, run_breaches}
 use Rattle.wordcheck.proofs.judged.Goals as goal
-
--- no rule has the number 0
-numbered : (r : Rule) → rule_number r ≡ 0 → ⊥
-numbered r e = grind (arith, common_steps)
 
 pub loop-word-init : goal.loop-word-init
 loop-word-init c = rw c.start-kept.ensures (refl, run_is c.args.timing c.args.words.now)

@@ -1,7 +1,5 @@
 use Rattle.std.proofs.Common.{ℕ, ◌/◌, ◌≤◌, ◌<◌, ◌≡◌, sym, ◌∙◌, List, length, arith}
-use Rattle.std.proofs.lemmas.Grind.{common_steps}
-use Rattle.early.specs.declared.rule.Rule.{Rule}
-use Rattle.early.specs.Answers.{rule_number}
+use Rattle.early.proofs.Numbered.{numbered}
 use Rattle.config.specs.declared.Timing.{Timing}
 use Rattle.words.specs.Words.{words_of}
 use Rattle.words.proofs.Listed.{words-length, word-listed}
@@ -16,10 +14,6 @@ use Rattle.bytecheck.proofs.trace.Trace.judged.Goals as goal
 ends : (t : Timing) (bytes : List ℕ) (p : Kept) → judge t (words_of bytes) ≡ run_from t (words_of bytes) p
     → length bytes / 4 ≤ p.clock → accepted ≡ judge t (words_of bytes)
 ends t bytes p e h = sym (e ∙ run_ends t p.stamps p.met (words_of bytes) p.clock (rw (words-length bytes) h))
-
--- no rule has the number 0
-numbered : (r : Rule) → rule_number r ≡ 0 → ⊥
-numbered r e = grind (arith, common_steps)
 
 pub loop-kept-init : goal.loop-kept-init
 loop-kept-init c = rw c.start-kept.ensures (run_is c.args.self.timing (words_of c.args.self.bytes.now))
