@@ -148,8 +148,8 @@ config_of grade cl bl organisation period rbd rwd wrd rsc refc = wired_of grade 
 -- the configuration of a list of eleven numbers in the order of RULES 1.1
 abbrev pub sheet_of : List ℕ → Config
 sheet_of s =
-    wired_of (get_or s 0 0) (get_or s 1 0) (get_or s 2 0) (get_or s 3 0) (get_or s 4 0) (get_or s 5 0) (get_or s 6 0) (get_or s 7 0) (get_or s 8 0)
-    (get_or s 9 0) (get_or s 10 0)
+    wired_of (get_or s 0 0) (get_or s 1 0) (get_or s 2 0) (get_or s 3 0) (get_or s 4 0) (get_or s 5 0) (get_or s 6 0) (get_or s 7 0)
+    (get_or s 8 0) (get_or s 9 0) (get_or s 10 0)
 
 -- the eleven numbers of a sheet, in the order of RULES 1.1
 abbrev pub numbers_of : Config → List ℕ

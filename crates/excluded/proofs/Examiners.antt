@@ -76,8 +76,8 @@ step_moves s w =
     (λ _. record { passes = λ _. refl; stays = λ h. absurd (h refl); records = λ e _. accepted-breach e })
     (λ some. record { passes = λ e. absurd (breach-accepted e); stays = λ _. refl; records = λ _ e. eqb-false n 0 some (e ∙ free) }))
 
-no_step : (s after : Checker) (w : ℕ) (v : Result (Option Breach) Refusal) → ((step_of s w).outcome ≡ verdict_outcome v → (step_of s w).after ≡ after → ⊥)
-    → NoStep s w v after
+no_step : (s after : Checker) (w : ℕ) (v : Result (Option Breach) Refusal)
+    → ((step_of s w).outcome ≡ verdict_outcome v → (step_of s w).after ≡ after → ⊥) → NoStep s w v after
 no_step s after w v h e = h (sym (ap (λ r. r.outcome) e)) (sym (ap (λ r. r.after) e))
 
 pub examiners : Examiners

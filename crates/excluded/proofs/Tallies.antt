@@ -18,7 +18,8 @@ use Rattle.std.specs.Prelude.{Result, Ok, Err}
 use Rattle.excluded.specs.Excluded.{NoTally, Tallies}
 use Rattle.excluded.proofs.Answers.{same-counting}
 
-no_tally : (s : Config) (ws : List ℕ) (a : Result CommandCounts Uncounted) → (counting_outcome a ≡ counting (value (counts_of (derived s) ws)) → ⊥)
+no_tally : (s : Config) (ws : List ℕ) (a : Result CommandCounts Uncounted)
+    → (counting_outcome a ≡ counting (value (counts_of (derived s) ws)) → ⊥)
     → ((n : ℕ) → (0 ≡ n → ⊥) → counting_outcome a ≡ counting (refused n) → ⊥) → NoTally s ws a
 no_tally s ws a counts refuses = by-config (timing_of s) refl
   where

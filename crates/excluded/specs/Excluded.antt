@@ -1,6 +1,7 @@
 -- The wrong programs of the paper's section "What a reviewer will try, in order": what each would give, and that a contract, or demand 3,
 -- excludes it.
-use Rattle.std.specs.Prelude.{ℕ, zero, suc, ◌+◌, ◌≤◌, ◌<◌, ◌≡◌, true, false, Option, Some, None, Result, Ok, Err, List, [], ◌∷◌, ◌++◌, length, get_or, replicate}
+use Rattle.std.specs.Prelude.{ℕ, zero, suc, ◌+◌, ◌≤◌, ◌<◌, ◌≡◌, true, false, List, [], ◌∷◌, ◌++◌, length, get_or, replicate}
+use Rattle.std.specs.Prelude.{Option, Some, None, Result, Ok, Err}
 use Rattle.command.specs.Pairs.{desl}
 use Rattle.basics.specs.Outcome.{value}
 use Rattle.basics.specs.Numbers.{refusal_number, limit}
@@ -184,13 +185,13 @@ pub record Walks : Type 0 where
   -- one that says end while words are left: at any state
   pub end-early : (s after : Checker) (ws : List ℕ) → s.clock < length ws → NoMove s ws (Ok Progress.End) after
   -- one that says anything else where none is left, and the sheet and the state are not refused
-  pub end_unsaid : (s after : Checker) (ws : List ℕ) (t : Timing) (p : Result Progress Refusal) → length ws ≤ s.clock → timing_of s.config ≡ value t
-      → clock_fits s.clock s.met s.stamps ≡ true → (p ≡ Ok Progress.End → ⊥) → NoMove s ws p after
+  pub end_unsaid : (s after : Checker) (ws : List ℕ) (t : Timing) (p : Result Progress Refusal) → length ws ≤ s.clock
+      → timing_of s.config ≡ value t → clock_fits s.clock s.met s.stamps ≡ true → (p ≡ Ok Progress.End → ⊥) → NoMove s ws p after
   -- one that says that its word passed, and does not stand one on afterwards
   pub passed-place : (s after : Checker) (ws : List ℕ) → (after.clock ≡ s.clock + 1 → ⊥) → NoMove s ws (Ok Progress.Passed) after
   -- one that says anything else, and does not stand where it was
-  pub other_place : (s after : Checker) (ws : List ℕ) (p : Result Progress Refusal) → (p ≡ Ok Progress.Passed → ⊥) → (after.clock ≡ s.clock → ⊥)
-      → NoMove s ws p after
+  pub other_place : (s after : Checker) (ws : List ℕ) (p : Result Progress Refusal) → (p ≡ Ok Progress.Passed → ⊥)
+      → (after.clock ≡ s.clock → ⊥) → NoMove s ws p after
 
 -- no two arguments have one value
 abbrev pub Injective : {A B : Type 0} → (A → B) → Type 0

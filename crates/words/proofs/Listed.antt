@@ -66,7 +66,8 @@ chunk-word bytes i d h is =
     (rw (start, at 1 (omega arith), at 2 (omega arith), at 3 (omega arith)))
 
 -- the two words of a pair, where they are both there, and 0 where they are not
-pub pair-there : (bytes : List ℕ) (i : ℕ) → 0 < i → i < length bytes / 4 → pair_to bytes i ≡ word_at bytes (i - 1) + word_at bytes i * 2 ^ 32
+pub pair-there : (bytes : List ℕ) (i : ℕ) → 0 < i → i < length bytes / 4
+    → pair_to bytes i ≡ word_at bytes (i - 1) + word_at bytes i * 2 ^ 32
 pair-there bytes i pos h =
     ap₂ (λ b c. cond (b && c) (word_at bytes (i - 1) + word_at bytes i * 2 ^ 32) 0) (lt-ltb 0 i pos) (lt-ltb i (length bytes / 4) h)
 

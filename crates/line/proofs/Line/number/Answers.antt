@@ -9,6 +9,7 @@ loop-power-preserved c =
     let l = c.loop-power in
     let n = c.args.n in
     elim c.if-power-n.branch [
-      | then-power-n w ↦ rw (w.line-is, w.push-line.ensures) (shown-more l.line n l.power-index (omega arith) w.if-power-n.true ∙ l.invariant)
+      | then-power-n w ↦
+          rw (w.line-is, w.push-line.ensures) (shown-more l.line n l.power-index (omega arith) w.if-power-n.true ∙ l.invariant)
       | else-power-n w ↦ rw w.line-is (hidden-more l.line n l.power-index (omega arith) (omega arith) ∙ l.invariant)
     ]

@@ -31,7 +31,9 @@ returns-then-not-clear c =
     let bytes = c.args.self.bytes.now in
     let lead = c.from-lead.result in
     let at : l.track.clock + lead + 1 - 1 ≡ l.track.clock + lead = omega arith in
-    let passed = over bytes l.invariant.1 l.invariant.0 c.loop-marks-test.true c.loop-track-test.true c.requires.0 c.args.self.short c.from-lead.ensures in
+    let passed =
+    over bytes l.invariant.1 l.invariant.0 c.loop-marks-test.true c.loop-track-test.true c.requires.0 c.args.self.short
+    c.from-lead.ensures in
     rw at (passed.tracked, passed.passed)
 
 pub loop-marks-preserved : goal.loop-marks-preserved
