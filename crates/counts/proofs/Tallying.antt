@@ -4,7 +4,7 @@ use mathlib.Core.Path.{◌≡◌, refl, sym, ◌∙◌, ap, subst⁻¹}
 use mathlib.Core.Bool.{not}
 use mathlib.Core.List.{List, [], ◌∷◌}
 use native.Mathlib.Omega.{arith}
-use lib.ListN.{length, drop, drop_of_length-le}
+use lib.ListN.{length, drop}
 use Rattle.command.proofs.Levels.{level-bound}
 use Rattle.config.specs.declared.Timing.{Timing}
 use Rattle.reading.specs.Reading.{operation_of}
@@ -70,6 +70,3 @@ module _ {t : Timing} {words : List ℕ} {at : ℕ} {counts : CommandCounts} (y 
         below = rw w.size (below-turn t at counts x y.bl y.below);
         left = ap (with_turns t counts) (sym w.rest) ∙ y.left;
       })
-
-  pub ends : length words ≤ at → counts ≡ with_turns t no_counts (turns_of words)
-  ends h = sym (ap (λ ws. with_turns t counts (turns_from at ws)) (drop_of_length-le words h)) ∙ y.left

@@ -7,15 +7,14 @@ use native.Mathlib.Nat.{add-zero, zero-add}
 use native.Mathlib.Numerals.{add-one}
 use native.Mathlib.Omega.{arith}
 use borrow.Author.Tests.{eq-eqb, ne_eqb}
-use Rattle.std.proofs.lemmas.List.Sums.{sum_by-append, count_by-le-length}
+use Rattle.std.proofs.lemmas.List.Sums.{sum_by-append}
 use mathlib.Core.Bool.{cond}
 use lib.Dec.{eqb}
-use lib.ListN.{length, get_or, set, take, length-take}
+use lib.ListN.{length, get_or, set, take}
 use lib.Seq.{take-suc}
 use Rattle.command.specs.declared.operation.Request.{Request}
 use Rattle.queue.specs.Queue.{vacant}
 use Rattle.queue.specs.Totals.{for_bank, totals_from, totals_of}
-use Rattle.queue.proofs.ByBank.{are_totals}
 
 module _ (rs : List Request) (r : Request) where
   -- it counts for its bank
@@ -51,7 +50,3 @@ module _ (w : List Request) (i : ℕ) (h : i < length w) where
   -- and where it has none
   pub counts-none : 8 ≤ (get_or w i vacant).bank → totals_of (take i w) ≡ totals_of (take (i + 1) w)
   counts-none past = rw (add-one i, take-suc w i vacant h) (unraised (take i w) (get_or w i vacant) 8 0 (λ b l u q. omega arith))
-
--- a total of the first i requests is at most i
-pub few-taken : (b i : ℕ) (w : List Request) → b < 8 → get_or (totals_of (take i w)) b 0 ≤ i
-few-taken b i w h = rw (are_totals (take i w) b h) (omega (arith, count_by-le-length (λ r. eqb r.bank b) (take i w), length-take i w))

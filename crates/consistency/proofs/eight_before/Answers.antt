@@ -1,9 +1,8 @@
 -- That each of eight events is before the clock, said by place.
-use Rattle.std.proofs.Common.{◌≡◌, refl, sym, ◌∙◌, ap, ℕ, zero, suc, Bool, true, List, [], ◌∷◌, length, get_or, arith}
+use Rattle.std.proofs.Common.{◌≡◌, refl, ◌∙◌, ap, ℕ, zero, suc, Bool, true, List, [], ◌∷◌, length, get_or, arith}
 use mathlib.Core.Bool.{◌&&◌, and-true, and_assoc}
 use Rattle.std.specs.List.{list_all}
 use Rattle.std.proofs.lemmas.List.{take_all}
-use Rattle.std.proofs.lemmas.List.Folds.{list_all_more}
 use Rattle.consistency.specs.Consistency.{before, eight_before}
 use Rattle.consistency.proofs.eight_before.Goals as goal
 
@@ -22,11 +21,6 @@ module _ (p : ℕ → Bool) where
 
 eight : (k : ℕ) (cs : List ℕ) → length cs ≡ 8 → list_all (before k) cs ≡ eight_before k cs
 eight k cs e = rw (by_place (before k) cs, e, and-true (before k (get_or cs 7 0))) (simp and_assoc)
-
-pub loop-event-preserved : goal.loop-event-preserved
-loop-event-preserved c =
-    rw (c.loop-event.invariant, c.before-all.ensures)
-    (sym (list_all_more (before c.args.clock) c.args.events c.loop-event.event-index 0 (omega arith)))
 
 pub returns : goal.returns
 returns c =
