@@ -1,6 +1,7 @@
 // The refusals of the whole product, each by its number in section 6 of RULES.
-ghost use Rattle.std.specs.Prelude.{◌≡◌};
+ghost use Rattle.std.specs.Prelude.{◌≡◌, Some};
 ghost use Rattle.basics.specs.Numbers.{refusal_number};
+ghost use Rattle.basics.specs.Answers.{refusal_text};
 
 use std::error::Error;
 use std::fmt;
@@ -51,6 +52,8 @@ impl Refusal {
 }
 
 impl fmt::Display for Refusal {
+    ghost output = { λ why. Some (refusal_text why) };
+
     fn fmt<W: fmt::Write>(&self, f: &mut fmt::Formatter<W>) -> fmt::Result {
         write!(f, "refused {}", self.number())
     }

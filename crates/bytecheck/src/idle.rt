@@ -19,7 +19,13 @@ impl Trace<'_> {
         requires { end ≤ length self.bytes.now / 4 }
         ensures { (clock ≤ result) × RunPassed upper.shift upper.top end (words_of self.entry.bytes.now) clock result }
     {
-        runs::past_run(self.bytes, clock as usize, end as usize, upper) as u32
+        runs::past_run(
+            self.bytes,
+            clock as usize,
+            end as usize,
+            upper.shift,
+            upper.top,
+        ) as u32
     }
 
     // Passes over a whole sleep: the word at the clock, which goes low, those with PD low behind it, and the two wake-up words. The clock

@@ -73,7 +73,12 @@ impl Trace<'_> {
         let mut track = from;
         while track.clock + 58 < end {
             let stop = track.clock + 58;
-            let mut marks = runs::marks_from(self.bytes, track.clock as usize, DESLS);
+            let mut marks = runs::marks_from(
+                self.bytes,
+                track.clock as usize,
+                DESLS.shift,
+                DESLS.top,
+            );
             if (marks == 0) | (marks == GAPLESS) {
                 break;
             }

@@ -1,8 +1,8 @@
 -- What a step of the checker does, for every state there is (RULES 5.4).
-use Rattle.std.specs.Prelude.{ℕ, ◌+◌, Bool, cond, eqb, ltb, Option, None, Some, Result, Ok, Err}
+use Rattle.std.specs.Prelude.{ℕ, ◌+◌, Bool, cond, eqb, ltb, Option, None, Some, Result}
 use Rattle.command.specs.Pairs.{desl}
 use Rattle.basics.specs.Outcome.{Outcome, value, refused}
-use Rattle.basics.specs.Numbers.{refusal_number, limit}
+use Rattle.basics.specs.Numbers.{limit}
 use Rattle.basics.specs.Answers.{outcome_by}
 use Rattle.basics.specs.declared.refusal.Refusal.{Refusal}
 use Rattle.config.specs.Configuration.{timing_of}
@@ -69,11 +69,6 @@ judged t s w =
 -- a refusal leaves the state unchanged (RULES 7.2)
 abbrev pub refusing : Checker → ℕ → Step
 refusing s n = record { outcome = refused n; after = s }
-
--- a step that is not refused, or else the refusal, as what a step on the state s returns
-abbrev pub tried : Checker → Result Stepped Refusal → Step
-tried s (Ok r) = stepped r
-tried s (Err r) = refusing s (refusal_number r)
 
 -- refused by n, unless the test holds
 abbrev pub step_if : Bool → ℕ → Checker → Step → Step

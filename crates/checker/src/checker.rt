@@ -1,10 +1,10 @@
 // The checker (the paper's examiner): a state that takes one word after the other.
-ghost use Rattle.std.specs.Prelude.{◌≡◌, ◌<◌};
-ghost use Rattle.checker.specs.Steps.{fresh, stepped, tried, judged, step_of};
+ghost use Rattle.std.specs.Prelude.{◌≡◌};
+ghost use Rattle.checker.specs.Steps.{fresh, stepped, step_of};
 
 use basics::{LIMIT, Refusal};
 use breaches::word_breach;
-use config::{Config, Timing};
+use config::Config;
 use consistency::clock_fits;
 use stamps::{Kept, Timestamps, next_met};
 
@@ -63,37 +63,9 @@ impl Checker {
         }
     }
 
-    fn judged(self, timing: Timing, word: u32) -> Stepped
-        requires { self.clock < 16777216 }
-        ensures { stepped result ≡ judged timing self word }
-    {
-        let figures = timing.figures();
-        match word_breach(timing, self.kept(), word) {
-            None => Stepped {
-                verdict: Ok(None),
-                checker: Checker {
-                    clock: self.clock + 1,
-                    met: next_met(self.met, word),
-                    stamps: self.stamps.after(figures.four, self.clock, self.met, word),
-                    ..self
-                },
-            },
-            Some(rule) => {
-                let breach = Breach {
-                    clock: self.clock,
-                    number: rule.number(),
-                };
-                Stepped {
-                    verdict: Ok(Some(breach)),
-                    checker: Checker { breach, ..self },
-                }
-            }
-        }
-    }
-
-    // A step that is not refused, or the refusal.
-    fn try_step(self, word: u32) -> Result<Stepped, Refusal>
-        ensures { tried self result ≡ step_of self word }
+    // A step, whose checker is this one afterwards.
+    fn take(&mut self, word: u32) -> Result<Option<Breach>, Refusal>
+        ensures { stepped (record { verdict = result; checker = self.new }) ≡ step_of self.old word }
     {
         let timing = self.config.timing()?;
         if !clock_fits(self.kept()) {
@@ -105,19 +77,29 @@ impl Checker {
         if LIMIT <= self.clock {
             return Err(Refusal::ClockLimit);
         }
-        Ok(self.judged(timing, word))
+        if let Some(rule) = word_breach(timing, self.kept(), word) {
+            self.breach = Breach {
+                clock: self.clock,
+                number: rule.number(),
+            };
+            return Ok(Some(self.breach));
+        }
+        self.stamps = self
+            .stamps
+            .after(timing.figures().four, self.clock, self.met, word);
+        self.met = next_met(self.met, word);
+        self.clock += 1;
+        Ok(None)
     }
 
     // Examines one word: the configuration's refusals, then 19, 23 and 24; otherwise the word passes or is the first breach.
-    pub fn step(self, word: u32) -> Stepped
+    pub fn step(mut self, word: u32) -> Stepped
         ensures { stepped result ≡ step_of self word }
     {
-        match self.try_step(word) {
-            Ok(stepped) => stepped,
-            Err(why) => Stepped {
-                verdict: Err(why),
-                checker: self,
-            },
+        let verdict = self.take(word);
+        Stepped {
+            verdict,
+            checker: self,
         }
     }
 }

@@ -4,7 +4,7 @@
 ghost use Rattle.std.specs.Prelude.{◌≡◌};
 ghost use Rattle.consistency.specs.Consistency.{before, eight_before, stamps_before, words_before, clock_fits};
 
-use basics::{LIMIT, choose};
+use basics::LIMIT;
 use command::pins::{CS, high};
 use stamps::{Kept, is_exiting, is_powered_down};
 

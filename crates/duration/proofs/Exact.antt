@@ -1,26 +1,18 @@
 -- The theorem of specs/Exact: quotient and remainder by 1,000 are the two numbers of which the sentence holds.
-use Prim.Native.Nat.{ℕ, ◌*◌, ◌/◌, ◌%◌, ◌≤◌, ◌<◌}
+use Prim.Native.Nat.{ℕ, ◌*◌, ◌/◌, ◌%◌, ◌<◌}
 use mathlib.Core.Path.{◌≡◌, refl, ◌∙◌}
 use native.Mathlib.Omega.{arith}
-use borrow.Author.Tests.{leb-true, leb-false, le-leb, lt-leb}
+use borrow.Author.Tests.{leb-true, leb-false}
 use lib.Dec.{leb}
 use Rattle.basics.specs.Outcome.{value, refused}
 use Rattle.basics.proofs.Outcomes.{require-value, value_not, require-fails}
 use Rattle.config.specs.Configuration.{derived, timing_of}
 use Rattle.config.specs.declared.Config.{Config}
-use Rattle.config.specs.declared.Timing.{Timing}
 use Rattle.config.proofs.Accepted.{behind, timing-is, behind-refusal, config-between}
 use Rattle.duration.specs.declared.Duration.{Duration}
 use Rattle.duration.specs.Duration.{in_nanoseconds, duration_of}
 use Rattle.duration.specs.Exact.{Exact, Taken, Lengths}
-
--- the two ways that the call goes on an accepted sheet: 32, and so many periods
-module _ (c : Config) (n : ℕ) {t : Timing} (e : timing_of c ≡ value t) where
-  long : 16777216 < n → duration_of c n ≡ refused 32
-  long h = rw (e, lt-leb n 16777216 h)
-
-  lasting : n ≤ 16777216 → duration_of c n ≡ value (in_nanoseconds (n * c.period.0))
-  lasting h = rw (e, le-leb n 16777216 h)
+use Rattle.duration.proofs.Ways.{long, lasting}
 
 -- behind a 32 lie an accepted sheet, since no sheet is refused by that, and a test of the limit that fails
 only-long : (c : Config) (n : ℕ) → duration_of c n ≡ refused 32 → (timing_of c ≡ value (derived c)) × (16777216 < n)

@@ -1,11 +1,15 @@
 -- What is known of the bytes read. Which bytes come, and when a read fails, no contract of the system's calls says.
-use Rattle.std.specs.Prelude.{ℕ, ◌<◌, ◌≤◌, ◌≡◌, Bool, true, List, length, take, Result, Ok, Err}
+use Rattle.std.specs.Prelude.{ℕ, ◌<◌, ◌≤◌, ◌≡◌, Bool, true, List, length, take, ◌++◌, codes, decimal, Result, Ok, Err}
 use Rattle.input.specs.declared.ReadFailed.{ReadFailed}
 
 -- how many bytes were read, of all or before the read that failed
 abbrev pub count_of : Result ℕ ReadFailed → ℕ
 count_of (Ok count) = count
 count_of (Err e) = e.count
+
+-- what is written of a read that failed
+abbrev pub failed_text : ReadFailed → List ℕ
+failed_text e = codes "a read failed behind " ++ decimal e.count ++ codes " bytes"
 
 -- what a read that gave this comes to, behind so many bytes: the bytes that came, none at the end, or that it failed
 abbrev pub came : {E : Type 0} → ℕ → Result ℕ E → Result ℕ ReadFailed

@@ -1,8 +1,8 @@
 // Standard input, read to its end.
 #![tactic(auto)]
 
-ghost use Rattle.std.specs.Prelude.{◌≡◌, is_err};
-ghost use Rattle.input.specs.Reading.{count_of, came, ReadPromised};
+ghost use Rattle.std.specs.Prelude.{◌≡◌, is_err, Some};
+ghost use Rattle.input.specs.Reading.{failed_text, count_of, came, ReadPromised};
 
 use std::error::Error;
 use std::fmt;
@@ -15,6 +15,8 @@ pub struct ReadFailed {
 }
 
 impl fmt::Display for ReadFailed {
+    ghost output = { λ e. Some (failed_text e) };
+
     fn fmt<W: fmt::Write>(&self, f: &mut fmt::Formatter<W>) -> fmt::Result {
         write!(f, "a read failed behind {} bytes", self.count)
     }

@@ -9,7 +9,7 @@ use borrowed::{Given, offer, tick};
 use checker::Checker;
 use command::Request;
 use controller::{Controller, Offered, Ticked};
-use cursor::{TraceCursor, advance};
+use cursor::{TraceCursor, advance, new};
 use walks::Moved;
 
 // Takes a request: answers, and hands back, what `Controller::offer` does.
@@ -37,8 +37,8 @@ pub fn advance_through(words: &[u32], reached: Checker) -> Moved
     ensures { MovePromised reached words.now result }
 {
     let mut cursor = TraceCursor {
-        words,
         checker: reached,
+        ..new(words, reached.config)
     };
     let progress = advance(&mut cursor);
     Moved {

@@ -102,11 +102,12 @@ fn past_eights(bytes: &[u8], from: usize, stop: usize, upper: Upper) -> usize
     at
 }
 
-// Where the run from an index on ends, of words that agree. Up to sixteen words are passed at once, which are most runs between commands;
-// then eight a turn, and what is left one by one.
-pub fn past_run(bytes: &[u8], from: usize, end: usize, upper: Upper) -> usize
-    ensures { result ≡ run_end upper.shift upper.top end (words_of bytes.now) from }
+// Where the run from an index on ends, of words that are `top` without their lowest bits, as many as `shift` modulo 32. Up to sixteen
+// words are passed at once, which are most runs between commands; then eight a turn, and what is left one by one.
+pub fn past_run(bytes: &[u8], from: usize, end: usize, shift: u32, top: u32) -> usize
+    ensures { result ≡ run_end (shift % 32) top end (words_of bytes.now) from }
 {
+    let upper = Upper::new(shift, top);
     let stop = end.min(bytes.len() / 4);
     if stop <= from {
         return from;
@@ -126,15 +127,16 @@ pub fn past_run(bytes: &[u8], from: usize, end: usize, upper: Upper) -> usize
 // asked for 0 before they are put together: else the compiler makes numbers of 64 bits of all bits, and tests two words at once. With
 // `u64::from` for `as` it tests fewer at once, too. The first of a half, whose bit is 1, it tests by itself: hence 29 words, one more than
 // seven times four.
-pub fn marks_from(bytes: &[u8], from: usize, upper: Upper) -> u64
-    ensures { result ≡ marks_from upper.shift upper.top (words_of bytes.now) from }
+pub fn marks_from(bytes: &[u8], from: usize, shift: u32, top: u32) -> u64
+    ensures { result ≡ marks_from (shift % 32) top (words_of bytes.now) from }
 {
+    let upper_bits = Upper::new(shift, top);
     let count = bytes.len() / 4;
     if count < 58 || count - 58 < from {
         return 0;
     }
-    let low = marks_at::<29>(bytes, from, upper);
-    let high = marks_at::<29>(bytes, from + 29, upper);
+    let low = marks_at::<29>(bytes, from, upper_bits);
+    let high = marks_at::<29>(bytes, from + 29, upper_bits);
     if low == 0 && high == 0 {
         return 0;
     }

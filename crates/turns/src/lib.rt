@@ -29,11 +29,11 @@ pub fn opens_pair(word: u32) -> bool
 pub fn turn(words: &[u32], at: usize) -> Option<(TurnWords, usize)>
     ensures { turn_outcome at result ≡ turn_at words.now at }
 {
-    match *words.get(at..)? {
-        [] => None,
-        [first, second, ..] if opens_pair(first) => {
-            Some((TurnWords::Closed(Pair { first, second }), at + 2))
+    let &first = words.get(at)?;
+    if opens_pair(first) {
+        if let Some(&second) = words.get(at + 1) {
+            return Some((TurnWords::Closed(Pair { first, second }), at + 2));
         }
-        [first, ..] => Some((TurnWords::Single(first), at + 1)),
     }
+    Some((TurnWords::Single(first), at + 1))
 }

@@ -1,5 +1,5 @@
 -- Two halves, the second above the first.
-use Rattle.std.proofs.Common.{ℕ, List, ◌≡◌, ◌+◌, ◌*◌, ◌/◌, ◌^◌, ◌≤◌, arith, sym, length}
+use Rattle.std.proofs.Common.{ℕ, List, ◌≡◌, ◌+◌, ◌*◌, ◌/◌, ◌%◌, ◌^◌, ◌≤◌, arith, sym, length}
 use Rattle.words.specs.Words.{words_of}
 use Rattle.words.proofs.Listed.{words-length}
 use Rattle.runs.specs.Runs.{marks, marks_from}
@@ -20,19 +20,23 @@ joined shift top bytes from low high h l u =
 pub returns-then-count-lt58 : goal.returns-then-count-lt58
 returns-then-count-lt58 c =
     let a = c.args in
-    sym (marks_missing a.upper.shift a.upper.top (words_of a.bytes.now) a.from (omega (arith, words-length a.bytes.now)))
+    sym (marks_missing (a.shift % 32) a.top (words_of a.bytes.now) a.from (omega (arith, words-length a.bytes.now)))
 
 pub returns-then-high-eq0 : goal.returns-then-high-eq0
 returns-then-high-eq0 c =
     let a = c.args in
+    let upper = c.new-upper_bits.ensures in
+    let low = rw (upper.0, upper.1) at c.marks_at-low.ensures in
+    let high = rw (upper.0, upper.1) at c.marks_at-high.ensures in
     omega (
       arith,
-      joined a.upper.shift a.upper.top a.bytes.now a.from c.marks_at-low.result c.marks_at-high.result (omega arith)
-          c.marks_at-low.ensures c.marks_at-high.ensures,
+      joined (a.shift % 32) a.top a.bytes.now a.from c.marks_at-low.result c.marks_at-high.result (omega arith) low high,
     )
 
 pub returns : goal.returns
 returns c =
     let a = c.args in
-    joined a.upper.shift a.upper.top a.bytes.now a.from c.marks_at-low.result c.marks_at-high.result (omega arith)
-    c.marks_at-low.ensures c.marks_at-high.ensures
+    let upper = c.new-upper_bits.ensures in
+    let low = rw (upper.0, upper.1) at c.marks_at-low.ensures in
+    let high = rw (upper.0, upper.1) at c.marks_at-high.ensures in
+    joined (a.shift % 32) a.top a.bytes.now a.from c.marks_at-low.result c.marks_at-high.result (omega arith) low high

@@ -1,5 +1,5 @@
 -- The leading words, and runs from there, each from where the one before it ends.
-use Rattle.std.proofs.Common.{◌≡◌, ◌∙◌, List, ℕ, arith, length, ◌/◌, min}
+use Rattle.std.proofs.Common.{◌≡◌, ◌∙◌, List, ℕ, arith, length, ◌/◌, ◌%◌, min}
 use Rattle.words.specs.Words.{words_of}
 use Rattle.words.proofs.Listed.{words-length}
 use Rattle.runs.specs.Runs.{run_end}
@@ -14,20 +14,22 @@ ends shift top bytes end from e = cut shift top (words_of bytes) end from (rw (w
 pub returns-then-stop-from : goal.returns-then-stop-from
 returns-then-stop-from c =
     let a = c.args in
-    omega (arith, ends a.upper.shift a.upper.top a.bytes.now a.end a.from c.min-stop.ensures)
+    omega (arith, ends (a.shift % 32) a.top a.bytes.now a.end a.from c.min-stop.ensures)
 
 pub returns-then-stop-from-lt16 : goal.returns-then-stop-from-lt16
 returns-then-stop-from-lt16 c =
     let a = c.args in
-    c.past_singly.ensures ∙ ends a.upper.shift a.upper.top a.bytes.now a.end a.from c.min-stop.ensures
+    let upper = c.new-upper.ensures in
+    let singly = rw (upper.0, upper.1) at c.past_singly.ensures in
+    singly ∙ ends (a.shift % 32) a.top a.bytes.now a.end a.from c.min-stop.ensures
 
 pub returns : goal.returns
 returns c =
     let a = c.args in
+    let upper = c.new-upper.ensures in
+    let lead = rw (upper.0, upper.1) at c.leading-lead.ensures in
+    let eights = rw (upper.0, upper.1) at c.past_eights-at.ensures.1 in
+    let singly = rw (upper.0, upper.1) at c.past_singly-2.ensures in
     let past =
-    run_past a.upper.shift a.upper.top (words_of a.bytes.now) 16 a.from c.min-stop.result (omega (arith, c.leading-lead.ensures))
-    (omega arith) in
-    c.past_singly-2.ensures
-    ∙ c.past_eights-at.ensures.1
-    ∙ past
-    ∙ ends a.upper.shift a.upper.top a.bytes.now a.end a.from c.min-stop.ensures
+    run_past (a.shift % 32) a.top (words_of a.bytes.now) 16 a.from c.min-stop.result (omega (arith, lead)) (omega arith) in
+    singly ∙ eights ∙ past ∙ ends (a.shift % 32) a.top a.bytes.now a.end a.from c.min-stop.ensures

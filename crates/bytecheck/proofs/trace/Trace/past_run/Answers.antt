@@ -1,5 +1,5 @@
 -- Each word of the run is there, agrees, and stands before `end`.
-use Rattle.std.proofs.Common.{ℕ, ◌+◌, ◌-◌, min, drop, arith}
+use Rattle.std.proofs.Common.{ℕ, ◌≡◌, ◌+◌, ◌-◌, ◌%◌, min, drop, arith}
 use Rattle.words.specs.Words.{words_of}
 use Rattle.runs.specs.Runs.{leading}
 use Rattle.runs.proofs.Lead.{in_run}
@@ -13,7 +13,8 @@ returns c =
     let top = a.upper.top in
     let ws = words_of a.self.bytes.now in
     let n : ℕ = min (a.end - a.clock) (leading shift top (drop a.clock ws)) in
-    rw c.past_run.ensures (
+    let inside : shift % 32 ≡ shift = omega arith in
+    rw (c.past_run.ensures, inside) (
       omega arith,
       λ first quiet t s due.
           quiet_on shift top quiet t s ws a.clock n (λ i h. in_run shift top ws a.clock i (omega arith))
