@@ -25,9 +25,9 @@ returns-then-count-lt58 c =
 pub returns-then-high-eq0 : goal.returns-then-high-eq0
 returns-then-high-eq0 c =
     let a = c.args in
-    let upper = c.new-upper_bits.ensures in
-    let low = rw (upper.0, upper.1) at c.marks_at-low.ensures in
-    let high = rw (upper.0, upper.1) at c.marks_at-high.ensures in
+    let shift : c.new-upper_bits.result.shift ≡ a.shift % 32 = omega (arith, c.new-upper_bits.ensures.0) in
+    let low = rw (shift, c.new-upper_bits.ensures.1) at c.marks_at-low.ensures in
+    let high = rw (shift, c.new-upper_bits.ensures.1) at c.marks_at-high.ensures in
     omega (
       arith,
       joined (a.shift % 32) a.top a.bytes.now a.from c.marks_at-low.result c.marks_at-high.result (omega arith) low high,
@@ -36,7 +36,7 @@ returns-then-high-eq0 c =
 pub returns : goal.returns
 returns c =
     let a = c.args in
-    let upper = c.new-upper_bits.ensures in
-    let low = rw (upper.0, upper.1) at c.marks_at-low.ensures in
-    let high = rw (upper.0, upper.1) at c.marks_at-high.ensures in
+    let shift : c.new-upper_bits.result.shift ≡ a.shift % 32 = omega (arith, c.new-upper_bits.ensures.0) in
+    let low = rw (shift, c.new-upper_bits.ensures.1) at c.marks_at-low.ensures in
+    let high = rw (shift, c.new-upper_bits.ensures.1) at c.marks_at-high.ensures in
     joined (a.shift % 32) a.top a.bytes.now a.from c.marks_at-low.result c.marks_at-high.result (omega arith) low high

@@ -19,17 +19,18 @@ returns-then-stop-from c =
 pub returns-then-stop-from-lt16 : goal.returns-then-stop-from-lt16
 returns-then-stop-from-lt16 c =
     let a = c.args in
-    let upper = c.new-upper.ensures in
-    let singly = rw (upper.0, upper.1) at c.past_singly.ensures in
+    let shift : c.new-upper.result.shift ≡ a.shift % 32 = omega (arith, c.new-upper.ensures.0) in
+    let singly = rw (shift, c.new-upper.ensures.1) at c.past_singly.ensures in
     singly ∙ ends (a.shift % 32) a.top a.bytes.now a.end a.from c.min-stop.ensures
 
 pub returns : goal.returns
 returns c =
     let a = c.args in
-    let upper = c.new-upper.ensures in
-    let lead = rw (upper.0, upper.1) at c.leading-lead.ensures in
-    let eights = rw (upper.0, upper.1) at c.past_eights-at.ensures.1 in
-    let singly = rw (upper.0, upper.1) at c.past_singly-2.ensures in
+    let shift : c.new-upper.result.shift ≡ a.shift % 32 = omega (arith, c.new-upper.ensures.0) in
+    let top = c.new-upper.ensures.1 in
+    let lead = rw (shift, top) at c.leading-lead.ensures in
+    let eights = rw (shift, top) at c.past_eights-at.ensures.1 in
+    let singly = rw (shift, top) at c.past_singly-2.ensures in
     let past =
     run_past (a.shift % 32) a.top (words_of a.bytes.now) 16 a.from c.min-stop.result (omega (arith, lead)) (omega arith) in
     singly ∙ eights ∙ past ∙ ends (a.shift % 32) a.top a.bytes.now a.end a.from c.min-stop.ensures
